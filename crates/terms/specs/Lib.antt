@@ -1,0 +1,4 @@
+pub mod Operators
+pub mod Numbers
+pub mod Terms
+pub mod Examples
