@@ -1,3 +1,4 @@
+pub mod Words
 pub mod Operators
 pub mod Numbers
 pub mod Terms

@@ -1,17 +1,18 @@
 -- The operator table: each operator's word, the kinds of its operands and the kind of its result. Reader, kind check and evaluator all go by it.
-use mathlib.Core.Bool.{Bool, true, false, cond, _&&_}
 use mathlib.Core.List.{List, [], _∷_}
 use Prim.Native.Nat.{ℕ}
 use lib.Chars.{codes}
-use lib.Dec.{eqb}
 use lib.ListN.{length}
 use Rattle.std.specs.declared.option.Option.{Option}
-use Rattle.std.specs.declared.option.Option.the-variants.{Some, None}
 use Rattle.terms.specs.declared.operator.Operator.{Operator}
 use Rattle.terms.specs.declared.operator.Operator.the-variants.{Addi, Subi, Negi, Mul, Divi, Mod, Odd, Gei, Lei, Gti, Lti, Mini, Maxi, True, False, And, Or, Not, Implies, Impliedby, Notimplies, Notimpliedby, Equal, Notequal, If}
 use Rattle.terms.specs.declared.kind.Kind.the-variants.{Number, Truth}
 use Rattle.terms.specs.declared.kind.Sort.{Sort}
 use Rattle.terms.specs.declared.kind.Sort.the-variants.{Of, Same}
+use Rattle.terms.specs.declared.operator.Operands.{Operands}
+use Rattle.terms.specs.declared.operator.Operands.the-variants.{None as Nothing, One, Two, Three}
+use Rattle.terms.specs.declared.operator.Signature.{Signature}
+use Rattle.terms.specs.Words.{firstWith}
 
 abbrev pub numbers : Sort
 numbers = Of Number
@@ -19,45 +20,40 @@ numbers = Of Number
 abbrev pub truths : Sort
 truths = Of Truth
 
--- what an operator takes, in written order, and what it gives
-pub record Shape : Type 0 where
-  pub takes : List Sort
-  pub gives : Sort
+abbrev arithmetic : Signature
+arithmetic = record { operands = Two numbers numbers; result = numbers }
 
-abbrev arithmetic : Shape
-arithmetic = record { takes = numbers ∷ numbers ∷ []; gives = numbers }
+abbrev negative : Signature
+negative = record { operands = One numbers; result = numbers }
 
-abbrev negative : Shape
-negative = record { takes = numbers ∷ []; gives = numbers }
+abbrev parity : Signature
+parity = record { operands = One numbers; result = truths }
 
-abbrev parity : Shape
-parity = record { takes = numbers ∷ []; gives = truths }
+abbrev comparison : Signature
+comparison = record { operands = Two numbers numbers; result = truths }
 
-abbrev comparison : Shape
-comparison = record { takes = numbers ∷ numbers ∷ []; gives = truths }
+abbrev constant : Signature
+constant = record { operands = Nothing; result = truths }
 
-abbrev constant : Shape
-constant = record { takes = []; gives = truths }
+abbrev connective : Signature
+connective = record { operands = Two truths truths; result = truths }
 
-abbrev connective : Shape
-connective = record { takes = truths ∷ truths ∷ []; gives = truths }
+abbrev negation : Signature
+negation = record { operands = One truths; result = truths }
 
-abbrev negation : Shape
-negation = record { takes = truths ∷ []; gives = truths }
+abbrev equality : Signature
+equality = record { operands = Two Same Same; result = truths }
 
-abbrev equality : Shape
-equality = record { takes = Same ∷ Same ∷ []; gives = truths }
+abbrev choice : Signature
+choice = record { operands = Three truths Same Same; result = Same }
 
-abbrev choice : Shape
-choice = record { takes = truths ∷ Same ∷ Same ∷ []; gives = Same }
-
--- a line of the table: the word that `!` follows, and the shape
+-- a line of the table: the word that `!` follows, and what the operator takes and gives
 pub record Line : Type 0 where
   pub word : List ℕ
-  pub shape : Shape
+  pub signature : Signature
 
-abbrev line : List ℕ → Shape → Line
-line w s = record { word = w; shape = s }
+abbrev line : List ℕ → Signature → Line
+line w s = record { word = w; signature = s }
 
 abbrev pub lineOf : Operator → Line
 lineOf Addi = line (codes "addi") arithmetic
@@ -89,11 +85,21 @@ lineOf If = line (codes "if") choice
 abbrev pub wordOf : Operator → List ℕ
 wordOf o = lineOf o .word
 
+abbrev pub signatureOf : Operator → Signature
+signatureOf o = lineOf o .signature
+
+abbrev sorts : Operands → List Sort
+sorts Nothing = []
+sorts (One a) = a ∷ []
+sorts (Two a b) = a ∷ b ∷ []
+sorts (Three a b c) = a ∷ b ∷ c ∷ []
+
+-- what it takes, in written order, and what it gives
 abbrev pub operandsOf : Operator → List Sort
-operandsOf o = lineOf o .shape .takes
+operandsOf o = sorts (signatureOf o .operands)
 
 abbrev pub resultOf : Operator → Sort
-resultOf o = lineOf o .shape .gives
+resultOf o = signatureOf o .result
 
 -- how many operands
 abbrev pub arity : Operator → ℕ
@@ -102,17 +108,6 @@ arity o = length (operandsOf o)
 abbrev pub operators : List Operator
 operators = Addi ∷ Subi ∷ Negi ∷ Mul ∷ Divi ∷ Mod ∷ Odd ∷ Gei ∷ Lei ∷ Gti ∷ Lti ∷ Mini ∷ Maxi ∷ True ∷ False ∷ And ∷ Or ∷ Not ∷ Implies ∷ Impliedby ∷ Notimplies ∷ Notimpliedby ∷ Equal ∷ Notequal ∷ If ∷ []
 
-abbrev pub sameWord : List ℕ → List ℕ → Bool
-sameWord [] [] = true
-sameWord [] (y ∷ ys) = false
-sameWord (x ∷ xs) [] = false
-sameWord (x ∷ xs) (y ∷ ys) = eqb x y && sameWord xs ys
-
--- the first operator of a list with this word
-abbrev pub firstWith : List ℕ → List Operator → Option Operator
-firstWith w [] = None
-firstWith w (o ∷ os) = cond (sameWord w (wordOf o)) (Some o) (firstWith w os)
-
 -- the operator of a word
-abbrev pub lookup : List ℕ → Option Operator
-lookup w = firstWith w operators
+abbrev pub operatorOf : List ℕ → Option Operator
+operatorOf w = firstWith wordOf w operators

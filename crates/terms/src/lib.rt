@@ -4,3 +4,4 @@ pub mod kind;
 pub mod number;
 pub mod operator;
 pub mod row;
+pub mod word;

@@ -1,8 +1,7 @@
 // The 25 operators: one constant table of their words and kinds, and what each computes.
 
 ghost use mathlib.Core.Path.{_≡_};
-ghost use lib.ListN.{length};
-ghost use Rattle.terms.specs.Operators.{lookup, sameWord, operandsOf, resultOf, truths};
+ghost use Rattle.terms.specs.Operators.{operatorOf, signatureOf, resultOf, arity as arityOf, truths};
 ghost use Rattle.terms.specs.Numbers.{spanned, computed, truth};
 ghost use lib.IntN.{pos};
 use super::kind::Kind;
@@ -11,6 +10,8 @@ use super::number::in_span;
 use super::number::product;
 use super::number::quotient;
 use super::number::remainder;
+use super::word::Entry;
+use super::word::lookup;
 
 #[derive(Clone, Copy)]
 pub enum Operator {
@@ -41,10 +42,18 @@ pub enum Operator {
     If,
 }
 
-// What an operator takes, in written order, and what it gives.
+// What an operator takes, in written order.
+#[derive(Clone, Copy)]
+pub enum Operands {
+    None,
+    One(Sort),
+    Two(Sort, Sort),
+    Three(Sort, Sort, Sort),
+}
+
 #[derive(Clone, Copy)]
 pub struct Signature {
-    pub operands: &'static [Sort],
+    pub operands: Operands,
     pub result: Sort,
 }
 
@@ -55,107 +64,107 @@ const TRUTH: Sort = Sort::Of(Kind::Truth);
 const SAME: Sort = Sort::Same;
 
 const ARITHMETIC: Signature = Signature {
-    operands: &[NUMBER, NUMBER],
+    operands: Operands::Two(NUMBER, NUMBER),
     result: NUMBER,
 };
 
 const NEGATIVE: Signature = Signature {
-    operands: &[NUMBER],
+    operands: Operands::One(NUMBER),
     result: NUMBER,
 };
 
 const PARITY: Signature = Signature {
-    operands: &[NUMBER],
+    operands: Operands::One(NUMBER),
     result: TRUTH,
 };
 
 const COMPARISON: Signature = Signature {
-    operands: &[NUMBER, NUMBER],
+    operands: Operands::Two(NUMBER, NUMBER),
     result: TRUTH,
 };
 
 const CONSTANT: Signature = Signature {
-    operands: &[],
+    operands: Operands::None,
     result: TRUTH,
 };
 
 const CONNECTIVE: Signature = Signature {
-    operands: &[TRUTH, TRUTH],
+    operands: Operands::Two(TRUTH, TRUTH),
     result: TRUTH,
 };
 
 const NEGATION: Signature = Signature {
-    operands: &[TRUTH],
+    operands: Operands::One(TRUTH),
     result: TRUTH,
 };
 
 const EQUALITY: Signature = Signature {
-    operands: &[SAME, SAME],
+    operands: Operands::Two(SAME, SAME),
     result: TRUTH,
 };
 
 const CHOICE: Signature = Signature {
-    operands: &[TRUTH, SAME, SAME],
+    operands: Operands::Three(TRUTH, SAME, SAME),
     result: SAME,
 };
 
-// The word of an operator, which `!` follows in a unit, the operator and its signature.
-#[derive(Clone, Copy)]
-struct Entry(&'static [u8], Operator, Signature);
-
-// In the order of `Operator`.
-static OPERATORS: [Entry; 25] = [
-    Entry(b"addi", Operator::Addi, ARITHMETIC),
-    Entry(b"subi", Operator::Subi, ARITHMETIC),
-    Entry(b"negi", Operator::Negi, NEGATIVE),
-    Entry(b"mul", Operator::Mul, ARITHMETIC),
-    Entry(b"divi", Operator::Divi, ARITHMETIC),
-    Entry(b"mod", Operator::Mod, ARITHMETIC),
-    Entry(b"odd", Operator::Odd, PARITY),
-    Entry(b"gei", Operator::Gei, COMPARISON),
-    Entry(b"lei", Operator::Lei, COMPARISON),
-    Entry(b"gti", Operator::Gti, COMPARISON),
-    Entry(b"lti", Operator::Lti, COMPARISON),
-    Entry(b"mini", Operator::Mini, ARITHMETIC),
-    Entry(b"maxi", Operator::Maxi, ARITHMETIC),
-    Entry(b"true", Operator::True, CONSTANT),
-    Entry(b"false", Operator::False, CONSTANT),
-    Entry(b"and", Operator::And, CONNECTIVE),
-    Entry(b"or", Operator::Or, CONNECTIVE),
-    Entry(b"not", Operator::Not, NEGATION),
-    Entry(b"implies", Operator::Implies, CONNECTIVE),
-    Entry(b"impliedby", Operator::Impliedby, CONNECTIVE),
-    Entry(b"notimplies", Operator::Notimplies, CONNECTIVE),
-    Entry(b"notimpliedby", Operator::Notimpliedby, CONNECTIVE),
-    Entry(b"equal", Operator::Equal, EQUALITY),
-    Entry(b"notequal", Operator::Notequal, EQUALITY),
-    Entry(b"if", Operator::If, CHOICE),
+// The word of each operator, which `!` follows in a unit, and its signature, in the order of `Operator`.
+static OPERATORS: [Entry<(Operator, Signature)>; 25] = [
+    Entry(b"addi", (Operator::Addi, ARITHMETIC)),
+    Entry(b"subi", (Operator::Subi, ARITHMETIC)),
+    Entry(b"negi", (Operator::Negi, NEGATIVE)),
+    Entry(b"mul", (Operator::Mul, ARITHMETIC)),
+    Entry(b"divi", (Operator::Divi, ARITHMETIC)),
+    Entry(b"mod", (Operator::Mod, ARITHMETIC)),
+    Entry(b"odd", (Operator::Odd, PARITY)),
+    Entry(b"gei", (Operator::Gei, COMPARISON)),
+    Entry(b"lei", (Operator::Lei, COMPARISON)),
+    Entry(b"gti", (Operator::Gti, COMPARISON)),
+    Entry(b"lti", (Operator::Lti, COMPARISON)),
+    Entry(b"mini", (Operator::Mini, ARITHMETIC)),
+    Entry(b"maxi", (Operator::Maxi, ARITHMETIC)),
+    Entry(b"true", (Operator::True, CONSTANT)),
+    Entry(b"false", (Operator::False, CONSTANT)),
+    Entry(b"and", (Operator::And, CONNECTIVE)),
+    Entry(b"or", (Operator::Or, CONNECTIVE)),
+    Entry(b"not", (Operator::Not, NEGATION)),
+    Entry(b"implies", (Operator::Implies, CONNECTIVE)),
+    Entry(b"impliedby", (Operator::Impliedby, CONNECTIVE)),
+    Entry(b"notimplies", (Operator::Notimplies, CONNECTIVE)),
+    Entry(b"notimpliedby", (Operator::Notimpliedby, CONNECTIVE)),
+    Entry(b"equal", (Operator::Equal, EQUALITY)),
+    Entry(b"notequal", (Operator::Notequal, EQUALITY)),
+    Entry(b"if", (Operator::If, CHOICE)),
 ];
-
-fn same(a: &[u8], b: &[u8]) -> bool
-    ensures { λ r. ⌜ r ≡ sameWord (now (a .entry)) (now (b .entry)) ⌝ }
-{
-    a == b
-}
 
 // The operator of a word, written without its `!`.
 pub fn find(word: &[u8]) -> Option<Operator>
-    ensures { λ r. ⌜ r ≡ lookup (now (word .entry)) ⌝ }
+    ensures { λ r. ⌜ r ≡ operatorOf (now (word .entry)) ⌝ }
 {
-    for Entry(other, operator, _) in &OPERATORS {
-        if same(word, other) {
-            return Some(*operator);
-        }
+    match lookup(word, &OPERATORS) {
+        Some((operator, _)) => Some(operator),
+        None => None,
     }
-    None
 }
 
 impl Operator {
+    // What it takes and gives.
     pub fn signature(self) -> Signature
-        ensures operands { λ r. ⌜ now (r .operands) ≡ operandsOf self ⌝ }
-        ensures result { λ r. ⌜ r .result ≡ resultOf self ⌝ }
+        ensures { λ r. ⌜ r ≡ signatureOf self ⌝ }
     {
-        OPERATORS[self as usize].2
+        OPERATORS[self as usize].1.1
+    }
+
+    // How many operands it takes.
+    pub fn arity(self) -> usize
+        ensures { λ r. ⌜ r ≡ arityOf self ⌝ }
+    {
+        match self.signature().operands {
+            Operands::None => 0,
+            Operands::One(_) => 1,
+            Operands::Two(_, _) => 2,
+            Operands::Three(_, _, _) => 3,
+        }
     }
 
     // What it gives for its operands, `None` where that lies outside the span. It ignores what stands past its last operand.

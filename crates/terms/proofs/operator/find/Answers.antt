@@ -1,12 +1,9 @@
-use mathlib.Core.Path.{sym}
-use Rattle.terms.proofs.Table.{found, next, absent}
+use mathlib.Core.Path.{ap, _∙_}
+use Rattle.terms.proofs.Table.{firstPart, part-of}
 use Rattle.terms.proofs.operator.find.Needs as need
 
-pub loop-other-again : need.loop-other-again
-loop-other-again c = next _ _ _ _ _ (c .loop-other-test .taken) (c .loop-other .inv) (sym (c .if-same .ensures tt))
+pub returns-in-Some : need.returns-in-Some
+returns-in-Some c = simp part-of at (ap firstPart (c .in-Some .ensures tt))
 
-pub returns-then-same : need.returns-then-same
-returns-then-same c = found _ _ _ _ _ (c .loop-other-test .taken) (c .loop-other .inv) (sym (c .if-same .ensures tt))
-
-pub returns : need.returns
-returns c = absent _ _ _ _ (c .loop-other-test .left) (c .loop-other .inv)
+pub returns-in-None : need.returns-in-None
+returns-in-None c = simp part-of at (ap firstPart (c .in-None .ensures tt))
