@@ -1,3 +1,4 @@
 pub mod Slices
 pub mod Runs
 pub mod Values
+pub mod Names

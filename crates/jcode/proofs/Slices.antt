@@ -9,7 +9,7 @@ use Rattle.std.proofs.shelf.Lists.{take-all, drop-all}
 use Rattle.std.proofs.shelf.Tests.{cases-lt}
 
 -- taking no more than there is
-capped : {X : Type 0} (n : ℕ) (xs : List X) → take (min n (length xs)) xs ≡ take n xs
+pub capped : {X : Type 0} (n : ℕ) (xs : List X) → take (min n (length xs)) xs ≡ take n xs
 capped n xs =
     ⊎-elim
     (λ h. let e : min n (length xs) ≡ n = omega arith in ap (λ k. take k xs) e)

@@ -1,3 +1,6 @@
 pub mod Refusals
 pub mod Bytes
 pub mod Pieces
+pub mod Scopes
+pub mod Tables
+pub mod ReadTerms

@@ -16,8 +16,8 @@ use terms::word::same_word;
 
 #[derive(Clone, Copy)]
 pub struct Cursor<'a> {
-    bytes: &'a [u8],
-    at: usize,
+    pub(super) bytes: &'a [u8],
+    pub(super) at: usize,
 }
 
 // How many bytes of a class stand from `start` on.
@@ -83,7 +83,7 @@ fn is_proper(low: u64, high: u64, first: u8, count: usize, value: u64) -> bool
 
 impl Cursor<'_> {
     // The byte at the cursor, 0 past the last.
-    fn peek(&self) -> u8
+    pub(super) fn peek(&self) -> u8
         ensures value { λ r. ⌜ r ≡ getD (now (now (self .entry) .bytes)) (now (self .entry) .at) 0 ⌝ }
         ensures within { λ r. ⌜ (0 < r → now (self .entry) .at < length (now (now (self .entry) .bytes))) ⌝ }
     {
@@ -91,7 +91,7 @@ impl Cursor<'_> {
     }
 
     // The fault of what is due at the cursor.
-    fn fault(&self, refusal: Refusal) -> ReadFault
+    pub(super) fn fault(&self, refusal: Refusal) -> ReadFault
         ensures { λ r. ⌜ r ≡ record { refusal = refusal; place = now (self .entry) .at } ⌝ }
     {
         ReadFault {

@@ -1,6 +1,11 @@
 // J-code: a unit as bytes and as tables, and the reading that leads from one to the other.
 
-pub mod class;
-pub mod cursor;
+mod class;
+mod cursor;
+pub mod mention;
 pub mod refusal;
+mod scope;
 pub mod span;
+pub mod statement;
+mod term_reader;
+pub mod variable;

@@ -3,7 +3,7 @@
 ghost use mathlib.Core.Path.{_≡_};
 ghost use Rattle.jcode.specs.Refusals.{numberOf, layerOf};
 
-#[derive(Clone, Copy, PartialEq, Eq, Debug)]
+#[derive(Clone, Copy)]
 pub enum Refusal {
     // The piece that is due does not begin here.
     Missing = 1,
@@ -42,7 +42,7 @@ pub enum Refusal {
 }
 
 // The part of the examiner that refuses.
-#[derive(Clone, Copy, PartialEq, Eq, Debug)]
+#[derive(Clone, Copy)]
 pub enum Layer {
     Reading,
     Checking,
@@ -68,7 +68,7 @@ impl Refusal {
 }
 
 // A refusal of reading, and the first byte of the faulty piece.
-#[derive(Clone, Copy, PartialEq, Eq, Debug)]
+#[derive(Clone, Copy)]
 pub struct ReadFault {
     pub refusal: Refusal,
     pub place: usize,
