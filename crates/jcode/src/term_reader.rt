@@ -4,9 +4,10 @@ ghost use mathlib.Core.Path.{_≡_};
 ghost use mathlib.Core.Bool.{true};
 ghost use Prim.Native.Nat.{_<_, _≤_};
 ghost use lib.ListN.{length};
+ghost use Rattle.std.specs.Vec.{made};
 ghost use Rattle.jcode.specs.Pieces.{Reads, told};
 ghost use Rattle.jcode.specs.Scopes.{scopeOf};
-ghost use Rattle.jcode.specs.ReadTerms.{headOf, known, readVariable, readListed, readDefined, readRow, operandsAfter, readOpen, readClose, readLead, readOperands, readInside, readTerm, ReadsRows};
+ghost use Rattle.jcode.specs.ReadTerms.{headOf, mention, byHead, known, readVariable, readListed, readDefined, readRow, operandsAfter, readOpen, readClose, readLead, readOperands, readInside, readTerm, ReadsRows};
 use super::cursor::Cursor;
 use super::mention::Aspect;
 use super::mention::Mention;
@@ -24,6 +25,8 @@ use terms::row::Row;
 use terms::word::Entry;
 use terms::word::lookup;
 use terms::word::same_word;
+
+pub(super) const ROW_LIMIT: usize = 2_000;
 
 // What a word opens that `!` follows.
 #[derive(Clone, Copy)]
@@ -52,7 +55,9 @@ fn find_head(word: &[u8]) -> Option<Head>
     }
 }
 
-fn mentioned(variable: usize, aspect: Aspect, stage: Stage) -> UnitRow {
+fn mentioned(variable: usize, aspect: Aspect, stage: Stage) -> UnitRow
+    ensures { λ r. ⌜ r ≡ mention aspect stage variable ⌝ }
+{
     Row::Mention(Mention { variable, aspect, stage })
 }
 
@@ -84,5 +89,87 @@ impl Cursor<'_> {
             return Ok(variable);
         }
         Err(fault)
+    }
+
+    // What follows `defined!`: a variable, or `new!` and a listed one.
+    fn defined(&mut self, scope: Scope) -> Result<UnitRow, ReadFault>
+        ensures { λ r. ⌜ Reads (readDefined (scopeOf (now (now (self .entry) .bytes)) (scope .entry))) (now (self .entry)) r (now (self .exit)) ⌝ }
+    {
+        let fault = self.fault(Refusal::Missing);
+        let name = self.name()?;
+        if self.peek() != b'!' {
+            let variable = self.known(scope, name)?;
+            return Ok(mentioned(variable, Aspect::Shadow, Stage::Current));
+        }
+        self.at += 1;
+        if !same_word(name.of(self.bytes), b"new") {
+            return Err(fault);
+        }
+        self.gap()?;
+        let variable = self.listed(scope)?;
+        Ok(mentioned(variable, Aspect::Shadow, Stage::New))
+    }
+
+    // What follows a word and its `!`, up to the operands; the word stands at `place`.
+    fn headed(&mut self, scope: Scope, place: usize, head: Option<Head>) -> Result<UnitRow, ReadFault>
+        ensures { λ r. ⌜ Reads (byHead (scopeOf (now (now (self .entry) .bytes)) (scope .entry)) place head) (now (self .entry)) r (now (self .exit)) ⌝ }
+    {
+        match head {
+            Some(Head::Constant) => {
+                self.gap()?;
+                let number = self.number()?;
+                Ok(Row::Constant(number))
+            }
+            Some(Head::Defined) => {
+                self.gap()?;
+                self.defined(scope)
+            }
+            Some(Head::New) => {
+                self.gap()?;
+                let variable = self.listed(scope)?;
+                Ok(mentioned(variable, Aspect::Value, Stage::New))
+            }
+            Some(Head::Operator(operator)) => Ok(Row::Operator(operator)),
+            None => Err(ReadFault { refusal: Refusal::Name, place }),
+        }
+    }
+
+    // The row that a term begins with.
+    fn row(&mut self, scope: Scope) -> Result<UnitRow, ReadFault>
+        ensures { λ r. ⌜ Reads (readRow (scopeOf (now (now (self .entry) .bytes)) (scope .entry))) (now (self .entry)) r (now (self .exit)) ⌝ }
+    {
+        let place = self.at;
+        let name = self.name()?;
+        if self.peek() == b'!' {
+            self.at += 1;
+            return self.headed(scope, place, find_head(name.of(self.bytes)));
+        }
+        let variable = self.known(scope, name)?;
+        Ok(mentioned(variable, Aspect::Value, Stage::Current))
+    }
+
+    // A term's opening bracket, with the limits that its row can pass.
+    fn open(&mut self, left: usize, room: usize, used: usize) -> Result<(), ReadFault>
+        ensures value { λ r. ⌜ Reads (readOpen left room used) (now (self .entry)) r (now (self .exit)) ⌝ }
+        ensures within { λ r. ⌜ made r (λ _. (0 < left) × (used < room)) ⌝ }
+    {
+        let limit = self.fault(Refusal::Limit);
+        let table = self.fault(Refusal::Table);
+        self.byte(b'(')?;
+        if left == 0 || used >= ROW_LIMIT {
+            return Err(limit);
+        }
+        if used >= room {
+            return Err(table);
+        }
+        Ok(())
+    }
+
+    // A closing bracket, perhaps after a gap.
+    pub(super) fn close(&mut self) -> Result<(), ReadFault>
+        ensures { λ r. ⌜ Reads readClose (now (self .entry)) r (now (self .exit)) ⌝ }
+    {
+        self.may_gap();
+        self.byte(b')')
     }
 }
