@@ -2,3 +2,5 @@ pub mod Slices
 pub mod Runs
 pub mod Values
 pub mod Names
+pub mod Stores
+pub mod Chains

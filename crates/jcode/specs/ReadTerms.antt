@@ -44,7 +44,7 @@ abbrev pub headOf : List ℕ → Option Head
 headOf w =
     cond (sameWord w (codes "consti")) (Some ConstantHead)
     (cond (sameWord w (codes "defined")) (Some Defined)
-      (cond (sameWord w (codes "new")) (Some NewHead) (operatorHead (operatorOf w))))
+    (cond (sameWord w (codes "new")) (Some NewHead) (operatorHead (operatorOf w))))
 
 abbrev found : ℕ → Option ℕ → ℕ → Answer ℕ
 found at (Some v) j = got v j
@@ -68,11 +68,11 @@ mention a s v = Mentioned (record { variable = v; aspect = a; stage = s })
 abbrev pub readDefined : Scope → Reader UnitRow
 readDefined sc bytes at =
     andThen (readName bytes at) (λ s j.
-      cond (eqb (getD bytes j 0) 33)
-      (cond (sameWord (slice bytes s) (codes "new"))
-        ((readGap ▷ (readListed sc giving mention Shadow New)) bytes (j + 1))
-        (refuse Missing at))
-      (andThen (known sc bytes s j) (λ v k. got (mention Shadow Current v) k)))
+    cond (eqb (getD bytes j 0) 33)
+    (cond (sameWord (slice bytes s) (codes "new"))
+    ((readGap ▷ (readListed sc giving mention Shadow New)) bytes (j + 1))
+    (refuse Missing at))
+    (andThen (known sc bytes s j) (λ v k. got (mention Shadow Current v) k)))
 
 -- what follows a word and its `!`, up to the operands
 abbrev pub byHead : Scope → ℕ → Option Head → Reader UnitRow
@@ -86,9 +86,9 @@ byHead sc at None = λ bytes i. refuse Name at
 abbrev pub readRow : Scope → Reader UnitRow
 readRow sc bytes at =
     andThen (readName bytes at) (λ s j.
-      cond (eqb (getD bytes j 0) 33)
-      (byHead sc at (headOf (slice bytes s)) bytes (j + 1))
-      (andThen (known sc bytes s j) (λ v k. got (mention Value Current v) k)))
+    cond (eqb (getD bytes j 0) 33)
+    (byHead sc at (headOf (slice bytes s)) bytes (j + 1))
+    (andThen (known sc bytes s j) (λ v k. got (mention Value Current v) k)))
 
 -- how many operands follow a row
 abbrev pub operandsAfter : UnitRow → ℕ
@@ -103,10 +103,14 @@ rowLimit = 2000
 abbrev pub readOpen : ℕ → ℕ → ℕ → Reader (Unit {0})
 readOpen left room used bytes at =
     andThen (readByte 40 bytes at) (λ _ i.
-      cond (eqb left 0) (refuse Limit at) (cond (leb rowLimit used) (refuse Limit at) (cond (leb room used) (refuse Table at) (got tt i))))
+    cond (eqb left 0) (refuse Limit at) (cond (leb rowLimit used) (refuse Limit at) (cond (leb room used) (refuse Table at) (got tt i))))
+
+-- a term up to its operands
+unfoldable pub readBegin : Scope → ℕ → ℕ → ℕ → Reader UnitRow
+readBegin sc left room used = readOpen left room used ▷ (readMayGap ▷ readRow sc)
 
 -- a closing bracket, perhaps after a gap
-abbrev pub readClose : Reader (Unit {0})
+unfoldable pub readClose : Reader (Unit {0})
 readClose = readMayGap ▷ readByte 41
 
 -- a gap that must stand, or one that may
@@ -119,19 +123,19 @@ abbrev pub readOperands : (ℕ → Reader (List UnitRow)) → ℕ → Bool → �
 readOperands term zero first used bytes at = got [] at
 readOperands term (suc n) first used bytes at =
     andThen ((readLead first ▷ term used) bytes at) (λ rs i.
-      andThen (readOperands term n false (used + length rs) bytes i) (λ rest j. got (rs ++ rest) j))
+    andThen (readOperands term n false (used + length rs) bytes i) (λ rest j. got (rs ++ rest) j))
 
--- a row and its operands
-abbrev pub readInside : Scope → (ℕ → Reader (List UnitRow)) → ℕ → Reader (List UnitRow)
-readInside sc term used bytes at =
-    andThen (readRow sc bytes at) (λ r i.
-      andThen (readOperands term (operandsAfter r) true (used + 1) bytes i) (λ rs j. got (r ∷ rs) j))
+-- a row, its operands and the closing bracket
+abbrev pub readWhole : Reader UnitRow → (ℕ → Reader (List UnitRow)) → ℕ → Reader (List UnitRow)
+readWhole begin term used bytes at =
+    andThen (begin bytes at) (λ r i.
+    andThen (readOperands term (operandsAfter r) true (used + 1) bytes i) (λ rs j.
+    andThen (readClose bytes j) (λ _ k. got (r ∷ rs) k)))
 
--- a term, with so much nesting left
+-- a term, with so much nesting left; where none is left, its beginning is refused
 abbrev pub readTerm : Scope → ℕ → ℕ → ℕ → Reader (List UnitRow)
-readTerm sc room zero used bytes at = andThen (readByte 40 bytes at) (λ _ i. refuse Limit at)
-readTerm sc room (suc k) used bytes at =
-    (readOpen (suc k) room used ▷ (readMayGap ▷ (readInside sc (readTerm sc room k) used ◁ readClose))) bytes at
+readTerm sc room zero used = readBegin sc zero room used giving (λ r. r ∷ [])
+readTerm sc room (suc k) used = readWhole (readBegin sc (suc k) room used) (readTerm sc room k) used
 
 -- what a call that writes rows tells: how many there are now, and the table
 abbrev pub toldRows : {A : Type 0} → Result A ReadFault → List UnitRow → ℕ → Answer (A × List UnitRow)

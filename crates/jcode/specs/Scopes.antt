@@ -35,5 +35,5 @@ nameIn bytes v = slice bytes (v .name)
 abbrev pub listedIn : Listing → List ℕ
 listedIn l = take (l .count) (l .variables)
 
-abbrev pub scopeOf : List ℕ → CodeScope → Scope
-scopeOf bytes s = record { names = map (nameIn bytes) (s .variables .now); listed = listedIn (s .listing) }
+abbrev pub scopeOf : CodeScope → Scope
+scopeOf s = record { names = map (nameIn (s .bytes .now)) (s .variables .now); listed = listedIn (s .listing) }

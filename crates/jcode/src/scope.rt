@@ -1,30 +1,30 @@
 // Scopes: the variables that a term can mention.
 
 ghost use mathlib.Core.Path.{_≡_};
-ghost use mathlib.Core.List.{map};
-ghost use Prim.Native.Nat.{ℕ};
-ghost use Rattle.jcode.specs.Scopes.{indexOf, nameIn, member, scopeOf, listedIn};
-use super::span::Span;
+ghost use Rattle.jcode.specs.Scopes.{indexOf, member, scopeOf, listedIn};
 use super::statement::Listing;
 use super::variable::Variable;
 use terms::word::same_word;
 
 #[derive(Clone, Copy)]
 pub struct Scope<'a> {
+    pub bytes: &'a [u8],
     pub variables: &'a [Variable],
     pub listing: Listing,
 }
 
-// The number of the variable with this name.
-pub(super) fn find_variable(bytes: &[u8], name: &[u8], variables: &[Variable]) -> Option<usize>
-    ensures { λ r. ⌜ r ≡ indexOf (now (name .entry)) (map (nameIn (now (bytes .entry))) (now (variables .entry))) ⌝ }
-{
-    for (i, variable) in variables.iter().enumerate() {
-        if same_word(name, variable.name.of(bytes)) {
-            return Some(i);
+impl Scope<'_> {
+    // The number of the variable with this name.
+    pub(super) fn find(&self, name: &[u8]) -> Option<usize>
+        ensures { λ r. ⌜ r ≡ indexOf (now (name .entry)) (scopeOf (now (self .entry)) .names) ⌝ }
+    {
+        for (i, variable) in self.variables.iter().enumerate() {
+            if same_word(name, variable.name.of(self.bytes)) {
+                return Some(i);
+            }
         }
+        None
     }
-    None
 }
 
 pub(super) fn contains(variables: &[usize], variable: usize) -> bool

@@ -19,13 +19,38 @@ pub struct Listing {
 #[derive(Clone, Copy)]
 pub enum Statement {
     Hang,
-    Break { text: Span },
-    Require { condition: Term, text: Span },
-    Proclaim { condition: Term },
-    New { listing: Listing, condition: Term, text: Span },
-    Assign { variable: usize, shadow: Term, value: Term },
-    Split { label: u16 },
-    When { condition: Term, label: u16 },
-    Branch { text: Span, label: u16 },
-    Join { label: u16 },
+    Break {
+        text: Span,
+    },
+    Require {
+        condition: Term,
+        text: Span,
+    },
+    Proclaim {
+        condition: Term,
+    },
+    New {
+        listing: Listing,
+        condition: Term,
+        text: Span,
+    },
+    Assign {
+        variable: usize,
+        shadow: Term,
+        value: Term,
+    },
+    Split {
+        label: u16,
+    },
+    When {
+        condition: Term,
+        label: u16,
+    },
+    Branch {
+        text: Span,
+        label: u16,
+    },
+    Join {
+        label: u16,
+    },
 }

@@ -7,7 +7,7 @@ ghost use lib.ListN.{length};
 ghost use Rattle.std.specs.Vec.{made};
 ghost use Rattle.jcode.specs.Pieces.{Reads, told};
 ghost use Rattle.jcode.specs.Scopes.{scopeOf};
-ghost use Rattle.jcode.specs.ReadTerms.{headOf, mention, byHead, known, readVariable, readListed, readDefined, readRow, operandsAfter, readOpen, readClose, readLead, readOperands, readInside, readTerm, ReadsRows};
+ghost use Rattle.jcode.specs.ReadTerms.{headOf, mention, byHead, known, readVariable, readListed, readDefined, readRow, operandsAfter, readOpen, readBegin, readClose, readLead, readOperands, readTerm, ReadsRows};
 use super::cursor::Cursor;
 use super::mention::Aspect;
 use super::mention::Mention;
@@ -17,7 +17,6 @@ use super::refusal::ReadFault;
 use super::refusal::Refusal;
 use super::scope::Scope;
 use super::scope::contains;
-use super::scope::find_variable;
 use super::span::Span;
 use terms::operator::Operator;
 use terms::operator::find;
@@ -58,22 +57,39 @@ fn find_head(word: &[u8]) -> Option<Head>
 fn mentioned(variable: usize, aspect: Aspect, stage: Stage) -> UnitRow
     ensures { λ r. ⌜ r ≡ mention aspect stage variable ⌝ }
 {
-    Row::Mention(Mention { variable, aspect, stage })
+    Row::Mention(Mention {
+        variable,
+        aspect,
+        stage,
+    })
+}
+
+// How many operands follow a row.
+fn operands_after(row: UnitRow) -> usize
+    ensures { λ r. ⌜ r ≡ operandsAfter row ⌝ }
+{
+    match row {
+        Row::Operator(operator) => operator.arity(),
+        _ => 0,
+    }
 }
 
 impl Cursor<'_> {
     // The variable that a name declares.
     fn known(&self, scope: Scope, name: Span) -> Result<usize, ReadFault>
-        ensures { λ r. ⌜ told r (now (self .entry) .at) ≡ known (scopeOf (now (now (self .entry) .bytes)) (scope .entry)) (now (now (self .entry) .bytes)) name (now (self .entry) .at) ⌝ }
+        ensures { λ r. ⌜ told r (now (self .entry) .at) ≡ known (scopeOf (scope .entry)) (now (now (self .entry) .bytes)) name (now (self .entry) .at) ⌝ }
     {
-        match find_variable(self.bytes, name.of(self.bytes), scope.variables) {
+        match scope.find(name.of(self.bytes)) {
             Some(variable) => Ok(variable),
-            None => Err(ReadFault { refusal: Refusal::Name, place: name.start }),
+            None => Err(ReadFault {
+                refusal: Refusal::Name,
+                place: name.start,
+            }),
         }
     }
 
     pub(super) fn variable(&mut self, scope: Scope) -> Result<usize, ReadFault>
-        ensures { λ r. ⌜ Reads (readVariable (scopeOf (now (now (self .entry) .bytes)) (scope .entry))) (now (self .entry)) r (now (self .exit)) ⌝ }
+        ensures { λ r. ⌜ Reads (readVariable (scopeOf (scope .entry))) (now (self .entry)) r (now (self .exit)) ⌝ }
     {
         let name = self.name()?;
         self.known(scope, name)
@@ -81,7 +97,7 @@ impl Cursor<'_> {
 
     // A variable that NEW lists.
     fn listed(&mut self, scope: Scope) -> Result<usize, ReadFault>
-        ensures { λ r. ⌜ Reads (readListed (scopeOf (now (now (self .entry) .bytes)) (scope .entry))) (now (self .entry)) r (now (self .exit)) ⌝ }
+        ensures { λ r. ⌜ Reads (readListed (scopeOf (scope .entry))) (now (self .entry)) r (now (self .exit)) ⌝ }
     {
         let fault = self.fault(Refusal::Name);
         let variable = self.variable(scope)?;
@@ -93,7 +109,7 @@ impl Cursor<'_> {
 
     // What follows `defined!`: a variable, or `new!` and a listed one.
     fn defined(&mut self, scope: Scope) -> Result<UnitRow, ReadFault>
-        ensures { λ r. ⌜ Reads (readDefined (scopeOf (now (now (self .entry) .bytes)) (scope .entry))) (now (self .entry)) r (now (self .exit)) ⌝ }
+        ensures { λ r. ⌜ Reads (readDefined (scopeOf (scope .entry))) (now (self .entry)) r (now (self .exit)) ⌝ }
     {
         let fault = self.fault(Refusal::Missing);
         let name = self.name()?;
@@ -111,8 +127,13 @@ impl Cursor<'_> {
     }
 
     // What follows a word and its `!`, up to the operands; the word stands at `place`.
-    fn headed(&mut self, scope: Scope, place: usize, head: Option<Head>) -> Result<UnitRow, ReadFault>
-        ensures { λ r. ⌜ Reads (byHead (scopeOf (now (now (self .entry) .bytes)) (scope .entry)) place head) (now (self .entry)) r (now (self .exit)) ⌝ }
+    fn headed(
+        &mut self,
+        scope: Scope,
+        place: usize,
+        head: Option<Head>,
+    ) -> Result<UnitRow, ReadFault>
+        ensures { λ r. ⌜ Reads (byHead (scopeOf (scope .entry)) place head) (now (self .entry)) r (now (self .exit)) ⌝ }
     {
         match head {
             Some(Head::Constant) => {
@@ -130,13 +151,16 @@ impl Cursor<'_> {
                 Ok(mentioned(variable, Aspect::Value, Stage::New))
             }
             Some(Head::Operator(operator)) => Ok(Row::Operator(operator)),
-            None => Err(ReadFault { refusal: Refusal::Name, place }),
+            None => Err(ReadFault {
+                refusal: Refusal::Name,
+                place,
+            }),
         }
     }
 
     // The row that a term begins with.
     fn row(&mut self, scope: Scope) -> Result<UnitRow, ReadFault>
-        ensures { λ r. ⌜ Reads (readRow (scopeOf (now (now (self .entry) .bytes)) (scope .entry))) (now (self .entry)) r (now (self .exit)) ⌝ }
+        ensures { λ r. ⌜ Reads (readRow (scopeOf (scope .entry))) (now (self .entry)) r (now (self .exit)) ⌝ }
     {
         let place = self.at;
         let name = self.name()?;
@@ -165,11 +189,74 @@ impl Cursor<'_> {
         Ok(())
     }
 
+    // A term up to its operands.
+    fn begin(
+        &mut self,
+        scope: Scope,
+        left: usize,
+        room: usize,
+        used: usize,
+    ) -> Result<UnitRow, ReadFault>
+        ensures value { λ r. ⌜ Reads (readBegin (scopeOf (scope .entry)) left room used) (now (self .entry)) r (now (self .exit)) ⌝ }
+        ensures within { λ r. ⌜ made r (λ _. (0 < left) × (used < room)) ⌝ }
+    {
+        self.open(left, room, used)?;
+        self.may_gap();
+        self.row(scope)
+    }
+
     // A closing bracket, perhaps after a gap.
     pub(super) fn close(&mut self) -> Result<(), ReadFault>
         ensures { λ r. ⌜ Reads readClose (now (self .entry)) r (now (self .exit)) ⌝ }
     {
         self.may_gap();
         self.byte(b')')
+    }
+
+    // A gap, which must stand ahead of the first operand.
+    fn lead(&mut self, first: bool) -> Result<(), ReadFault>
+        ensures { λ r. ⌜ Reads (readLead first) (now (self .entry)) r (now (self .exit)) ⌝ }
+    {
+        if first {
+            return self.gap();
+        }
+        self.may_gap();
+        Ok(())
+    }
+
+    // A term, with so much nesting left; it goes into the table after the rows that are used, and the rows used then are told.
+    pub(super) fn term(
+        &mut self,
+        scope: Scope,
+        rows: &mut [UnitRow],
+        used: usize,
+        left: usize,
+    ) -> Result<usize, ReadFault>
+        ensures { λ r. ⌜ ReadsRows (readTerm (scopeOf (scope .entry)) (length (now (rows .entry))) left used) used (now (self .entry)) (now (rows .entry)) r (now (self .exit)) (now (rows .exit)) ⌝ }
+    {
+        let row = self.begin(scope, left, rows.len(), used)?;
+        rows[used] = row;
+        let used = self.operands(scope, rows, used + 1, left - 1, operands_after(row))?;
+        self.close()?;
+        Ok(used)
+    }
+
+    // So many terms, the first after a gap.
+    fn operands(
+        &mut self,
+        scope: Scope,
+        rows: &mut [UnitRow],
+        used: usize,
+        left: usize,
+        count: usize,
+    ) -> Result<usize, ReadFault>
+        ensures { λ r. ⌜ ReadsRows (readOperands (readTerm (scopeOf (scope .entry)) (length (now (rows .entry))) left) count true used) used (now (self .entry)) (now (rows .entry)) r (now (self .exit)) (now (rows .exit)) ⌝ }
+    {
+        let mut used = used;
+        for i in 0..count {
+            self.lead(i == 0)?;
+            used = self.term(scope, rows, used, left)?;
+        }
+        Ok(used)
     }
 }

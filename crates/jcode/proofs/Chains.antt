@@ -1,0 +1,48 @@
+-- What a call reads after others, and what it refuses.
+use mathlib.Core.Path.{_≡_, refl, sym, ap, _∙_}
+use mathlib.Core.List.{List}
+use Prim.Native.Nat.{ℕ}
+use Rattle.std.specs.declared.result.Result.{Result}
+use Rattle.std.specs.declared.result.Result.the-variants.{Ok, Err}
+use Rattle.std.specs.Results.{ErrBy}
+use Rattle.std.proofs.shelf.Results.{err-from-errBy}
+use Rattle.jcode.specs.declared.cursor.Cursor.{Cursor}
+use Rattle.jcode.specs.declared.refusal.ReadFault.{ReadFault}
+use Rattle.jcode.specs.Pieces.{Answer, got, refused, Reader, andThen, _▷_, _◁_, _⊗_, _giving_, told, Reads}
+use Rattle.jcode.specs.ReadTerms.{UnitRow, toldRows}
+
+-- on from what was read, and no further than what was refused
+pub on : {A B : Type 0} {o : Answer A} {a : A} {i : ℕ} {x : Answer B} (f : A → ℕ → Answer B) → got a i ≡ o → x ≡ f a i → x ≡ andThen o f
+on f e h = h ∙ ap (λ o. andThen o f) e
+
+pub off : {A B : Type 0} {o : Answer A} {y : ReadFault} (f : A → ℕ → Answer B) → refused y ≡ o → refused y ≡ andThen o f
+off f e = ap (λ o. andThen o f) e
+
+-- what a `?` returns
+pub stopped : {A : Type 0} {y : ReadFault} (r : Result A ReadFault) (j : ℕ) → ErrBy r (λ z. z ≡ y) → told r j ≡ refused y
+stopped r j h = let p = err-from-errBy r h in ap (λ q. told q j) (p .1) ∙ ap refused (p .2)
+
+pub stopped-rows : {A : Type 0} {y : ReadFault} (r : Result A ReadFault) (rows : List UnitRow) (j : ℕ) → ErrBy r (λ z. z ≡ y) → toldRows r rows j ≡ refused y
+stopped-rows r rows j h = let p = err-from-errBy r h in ap (λ q. toldRows q rows j) (p .1) ∙ ap refused (p .2)
+
+-- a reading in bytes that are the same
+module _ {A : Type 0} {r : Reader A} {c d : Cursor} {bytes : List ℕ} (s : c .bytes .now ≡ bytes) where
+  pub read-in : {a : A} → Reads r c (Ok a) d → got a (d .at) ≡ r bytes (c .at)
+  read-in h = h .value ∙ ap (λ b. r b (c .at)) s
+
+  pub refused-in : {y : ReadFault} → Reads r c (Err y) d → refused y ≡ r bytes (c .at)
+  refused-in h = h .value ∙ ap (λ b. r b (c .at)) s
+
+  pub told-in : {x : Result A ReadFault} → Reads r c x d → told x (d .at) ≡ r bytes (c .at)
+  told-in h = h .value ∙ ap (λ b. r b (c .at)) s
+
+-- readers one after another
+pub reads-after : {A : Type 0} {r : Reader (Unit {0})} {q : Reader A} {c d e : Cursor} {u : Unit {0}} {x : Result A ReadFault} → Reads r c (Ok u) d → Reads q d x e → Reads (r ▷ q) c x e
+reads-after {q = q} {d = d} h k = record { value = on _ (h .value) (k .value ∙ (λ t. q (h .same t) (d .at))); same = k .same ∙ h .same }
+
+pub refuses : {A B : Type 0} {r : Reader A} {c d : Cursor} {y : ReadFault} (k : A → Reader B) → Reads r c (Err y) d → Reads (λ bytes at. andThen (r bytes at) (λ a i. k a bytes i)) c (Err y) d
+refuses {c = c} k h = record { value = off (λ a i. k a (c .bytes .now) i) (h .value); same = h .same }
+
+-- what a `?` returns
+pub exits : {A : Type 0} {r : Reader A} {c d : Cursor} {y : ReadFault} (x : Result A ReadFault) → ErrBy x (λ z. z ≡ y) → Reads r c (Err y) d → Reads r c x d
+exits {d = d} x e h = record { value = stopped x (d .at) e ∙ h .value; same = h .same }
