@@ -46,3 +46,31 @@ refuses {c = c} k h = record { value = off (λ a i. k a (c .bytes .now) i) (h .v
 -- what a `?` returns
 pub exits : {A : Type 0} {r : Reader A} {c d : Cursor} {y : ReadFault} (x : Result A ReadFault) → ErrBy x (λ z. z ≡ y) → Reads r c (Err y) d → Reads r c x d
 exits {d = d} x e h = record { value = stopped x (d .at) e ∙ h .value; same = h .same }
+
+pub reads-before : {A : Type 0} {r : Reader A} {q : Reader (Unit {0})} {c d e : Cursor} {a : A} {u : Unit {0}} → Reads r c (Ok a) d → Reads q d (Ok u) e → Reads (r ◁ q) c (Ok a) e
+reads-before {q = q} {c = c} {d = d} {a = a} h k = record {
+  value = on (λ a i. andThen (q (c .bytes .now) i) (λ _ j. got a j)) (h .value) (on (λ _ j. got a j) (read-in (h .same) k) refl);
+  same = k .same ∙ h .same;
+}
+
+pub refuses-before : {A : Type 0} {r : Reader A} {q : Reader (Unit {0})} {c d e : Cursor} {a : A} {y : ReadFault} → Reads r c (Ok a) d → Reads q d (Err y) e → Reads (r ◁ q) c (Err y) e
+refuses-before {q = q} {c = c} {d = d} {a = a} h k = record {
+  value = on (λ a i. andThen (q (c .bytes .now) i) (λ _ j. got a j)) (h .value) (off (λ _ j. got a j) (refused-in (h .same) k));
+  same = k .same ∙ h .same;
+}
+
+pub reads-pair : {A B : Type 0} {r : Reader A} {c d e : Cursor} {a : A} {b : B} (q : A → Reader B) → Reads r c (Ok a) d → Reads (q a) d (Ok b) e → Reads (r ⊗ q) c (Ok (a, b)) e
+reads-pair {c = c} {a = a} q h k = record {
+  value = on (λ a i. andThen (q a (c .bytes .now) i) (λ b j. got (a, b) j)) (h .value) (on (λ b j. got (a, b) j) (read-in (h .same) k) refl);
+  same = k .same ∙ h .same;
+}
+
+pub refuses-pair : {A B : Type 0} {r : Reader A} {c d e : Cursor} {a : A} {y : ReadFault} (q : A → Reader B) → Reads r c (Ok a) d → Reads (q a) d (Err y) e → Reads (r ⊗ q) c (Err y) e
+refuses-pair {c = c} {a = a} q h k = record {
+  value = on (λ a i. andThen (q a (c .bytes .now) i) (λ b j. got (a, b) j)) (h .value) (off (λ b j. got (a, b) j) (refused-in (h .same) k));
+  same = k .same ∙ h .same;
+}
+
+pub reads-giving : {A B : Type 0} {r : Reader A} {c d : Cursor} {a : A} (f : A → B) → Reads r c (Ok a) d → Reads (r giving f) c (Ok (f a)) d
+reads-giving f h = record { value = on (λ a i. got (f a) i) (h .value) refl; same = h .same }
+

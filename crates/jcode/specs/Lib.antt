@@ -4,3 +4,5 @@ pub mod Pieces
 pub mod Scopes
 pub mod Tables
 pub mod ReadTerms
+pub mod Sentences
+pub mod ReadStatements

@@ -7,5 +7,6 @@ pub mod refusal;
 mod scope;
 pub mod span;
 pub mod statement;
+mod statement_reader;
 mod term_reader;
 pub mod variable;

@@ -1,0 +1,148 @@
+// Reading statements, with their terms into the row table.
+
+ghost use mathlib.Core.Path.{_≡_};
+ghost use mathlib.Core.List.{_++_, _∷_, []};
+ghost use Prim.Native.Nat.{_<_, _≤_, _+_, _-_};
+ghost use lib.Dec.{leb};
+ghost use lib.ListN.{length};
+ghost use Rattle.jcode.specs.declared.statement_reader.Verb.the-variants as verb;
+ghost use Rattle.jcode.specs.Pieces.{Reads};
+ghost use Rattle.jcode.specs.Scopes.{scopeOf, listedIn};
+ghost use Rattle.jcode.specs.Sentences.{listingOf, verbOf};
+ghost use Rattle.jcode.specs.ReadStatements.{readSingle, readAgain, readRepeated, readTarget, closesAt, readUnseen, readListing, readTextEnd, readLabelEnd, byVerb, Lays};
+use super::cursor::Cursor;
+use super::mention::UnitRow;
+use super::refusal::ReadFault;
+use super::refusal::Refusal;
+use super::scope::Scope;
+use super::scope::contains;
+use super::span::Span;
+use super::statement::Listing;
+use super::statement::Statement;
+use super::statement::Term;
+use terms::word::Entry;
+use terms::word::lookup;
+
+const NESTING: usize = 32;
+
+// The word that a statement begins with.
+#[derive(Clone, Copy)]
+pub(super) enum Verb {
+    Break,
+    Require,
+    Proclaim,
+    New,
+    Assign,
+    Split,
+    When,
+    Branch,
+    Join,
+    Hang,
+}
+
+static VERBS: [Entry<Verb>; 10] = [
+    Entry(b"BREAK", Verb::Break),
+    Entry(b"REQUIRE", Verb::Require),
+    Entry(b"PROCLAIM", Verb::Proclaim),
+    Entry(b"NEW", Verb::New),
+    Entry(b"ASSIGN", Verb::Assign),
+    Entry(b"SPLIT", Verb::Split),
+    Entry(b"WHEN", Verb::When),
+    Entry(b"BRANCH", Verb::Branch),
+    Entry(b"JOIN", Verb::Join),
+    Entry(b"HANG", Verb::Hang),
+];
+
+pub(super) fn find_verb(word: &[u8]) -> Option<Verb>
+    ensures { λ r. ⌜ r ≡ verbOf (now (word .entry)) ⌝ }
+{
+    lookup(word, &VERBS)
+}
+
+impl Cursor<'_> {
+    fn text_end(&mut self) -> Result<Span, ReadFault>
+        ensures { λ r. ⌜ Reads readTextEnd (now (self .entry)) r (now (self .exit)) ⌝ }
+    {
+        self.may_gap();
+        let text = self.text()?;
+        self.end()?;
+        Ok(text)
+    }
+
+    fn label_end(&mut self) -> Result<u16, ReadFault>
+        ensures { λ r. ⌜ Reads readLabelEnd (now (self .entry)) r (now (self .exit)) ⌝ }
+    {
+        self.may_gap();
+        let label = self.label()?;
+        self.end()?;
+        Ok(label)
+    }
+
+    // A name in brackets.
+    fn single(&mut self, scope: Scope) -> Result<usize, ReadFault>
+        ensures { λ r. ⌜ Reads (readSingle (scopeOf (scope .entry))) (now (self .entry)) r (now (self .exit)) ⌝ }
+    {
+        self.byte(b'(')?;
+        self.may_gap();
+        let variable = self.variable(scope)?;
+        self.close()?;
+        Ok(variable)
+    }
+
+    // The name of this variable once more.
+    fn again(&mut self, scope: Scope, variable: usize) -> Result<(), ReadFault>
+        ensures { λ r. ⌜ Reads (readAgain (scopeOf (scope .entry)) variable) (now (self .entry)) r (now (self .exit)) ⌝ }
+    {
+        let fault = self.fault(Refusal::Name);
+        let other = self.variable(scope)?;
+        if other != variable {
+            return Err(fault);
+        }
+        Ok(())
+    }
+
+    fn repeated(&mut self, scope: Scope, variable: usize) -> Result<(), ReadFault>
+        ensures { λ r. ⌜ Reads (readRepeated (scopeOf (scope .entry)) variable) (now (self .entry)) r (now (self .exit)) ⌝ }
+    {
+        self.may_gap();
+        self.byte(b'(')?;
+        self.may_gap();
+        self.again(scope, variable)?;
+        self.close()
+    }
+
+    // The variable that ASSIGN lists and repeats.
+    fn target(&mut self, scope: Scope) -> Result<usize, ReadFault>
+        ensures { λ r. ⌜ Reads (readTarget (scopeOf (scope .entry))) (now (self .entry)) r (now (self .exit)) ⌝ }
+    {
+        let variable = self.single(scope)?;
+        self.repeated(scope, variable)?;
+        Ok(variable)
+    }
+
+    // Whether a closing bracket stands here, perhaps after a gap.
+    fn closes(&self) -> bool
+        ensures { λ r. ⌜ r ≡ closesAt (now (now (self .entry) .bytes)) (now (self .entry) .at) ⌝ }
+    {
+        let mut ahead = *self;
+        ahead.may_gap();
+        ahead.peek() == b')'
+    }
+
+    // A variable for a list that may take it.
+    fn unseen(&mut self, scope: Scope, listing: Listing) -> Result<usize, ReadFault>
+        ensures { λ r. ⌜ Reads (readUnseen (scopeOf (scope .entry)) (leb 8 (listing .count)) (listedIn listing)) (now (self .entry)) r (now (self .exit)) ⌝ }
+    {
+        let limit = self.fault(Refusal::Limit);
+        let known = self.fault(Refusal::Name);
+        if listing.count >= 8 {
+            self.name()?;
+            return Err(limit);
+        }
+        let variable = self.variable(scope)?;
+        if contains(listing.listed(), variable) {
+            return Err(known);
+        }
+        Ok(variable)
+    }
+}
