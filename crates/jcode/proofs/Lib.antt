@@ -4,3 +4,4 @@ pub mod Values
 pub mod Names
 pub mod Stores
 pub mod Chains
+pub mod Listings

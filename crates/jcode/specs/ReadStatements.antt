@@ -11,6 +11,7 @@ use Rattle.jcode.specs.declared.cursor.Cursor.{Cursor}
 use Rattle.jcode.specs.declared.refusal.ReadFault.{ReadFault}
 use Rattle.jcode.specs.declared.refusal.Refusal.the-variants.{Limit, Name}
 use Rattle.jcode.specs.declared.span.Span.{Span}
+use Rattle.jcode.specs.declared.statement.Listing.{Listing}
 use Rattle.jcode.specs.declared.statement.Statement.{Statement}
 use Rattle.jcode.specs.declared.statement_reader.Verb.{Verb}
 use Rattle.jcode.specs.declared.statement_reader.Verb.the-variants as verb
@@ -18,7 +19,7 @@ use Rattle.jcode.specs.Pieces.{Answer, got, refused, Reader, refuse, andThen, 
 use Rattle.jcode.specs.Scopes.{Scope, member}
 use Rattle.jcode.specs.Tables.{put}
 use Rattle.jcode.specs.ReadTerms.{UnitRow, toldRows, readVariable, readClose, readTerm}
-use Rattle.jcode.specs.Sentences.{Sentence, Hang, Break, Require, Proclaim, New, Assign, Split, When, Branch, Join, rowsOf, laid}
+use Rattle.jcode.specs.Sentences.{Sentence, Hang, Break, Require, Proclaim, New, Assign, Split, When, Branch, Join, rowsOf, listingOf, laid}
 
 abbrev pub nesting : ℕ
 nesting = 32
@@ -76,6 +77,13 @@ readNames sc bytes at =
 -- names in brackets, at most 8, none twice
 unfoldable pub readListing : Scope → Reader (List ℕ)
 readListing sc = readByte 40 ▷ (readMayGap ▷ readNames sc)
+
+-- the listed names as their record, after the first, and from the opening bracket on
+abbrev pub readMoreListed : Scope → ℕ → Reader Listing
+readMoreListed sc first = readMore sc 7 (first ∷ []) giving listingOf
+
+abbrev pub readListed : Scope → Reader Listing
+readListed sc = readListing sc giving listingOf
 
 -- where NEW lists these
 abbrev pub listing : Scope → List ℕ → Scope

@@ -2,8 +2,8 @@
 use mathlib.Core.Bool.{Bool, true, false, cond, _||_}
 use mathlib.Core.List.{List, [], _∷_, map}
 use Prim.Native.Nat.{ℕ, _+_}
-use lib.Dec.{eqb}
-use lib.ListN.{take}
+use lib.Dec.{eqb, ltb}
+use lib.ListN.{take, set}
 use Rattle.std.specs.declared.option.Option.{Option}
 use Rattle.std.specs.declared.option.Option.the-variants.{Some, None}
 use Rattle.terms.specs.Words.{sameWord}
@@ -34,6 +34,10 @@ nameIn bytes v = slice bytes (v .name)
 
 abbrev pub listedIn : Listing → List ℕ
 listedIn l = take (l .count) (l .variables)
+
+-- one variable more, where there is room
+abbrev pub pushed : Listing → ℕ → Listing
+pushed l v = cond (ltb (l .count) 8) (record { variables = set (l .variables) (l .count) v; count = l .count + 1 }) l
 
 abbrev pub scopeOf : CodeScope → Scope
 scopeOf s = record { names = map (nameIn (s .bytes .now)) (s .variables .now); listed = listedIn (s .listing) }

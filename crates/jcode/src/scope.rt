@@ -1,7 +1,7 @@
 // Scopes: the variables that a term can mention.
 
 ghost use mathlib.Core.Path.{_≡_};
-ghost use Rattle.jcode.specs.Scopes.{indexOf, member, scopeOf, listedIn};
+ghost use Rattle.jcode.specs.Scopes.{indexOf, member, scopeOf, listedIn, pushed};
 use super::statement::Listing;
 use super::variable::Variable;
 use terms::word::same_word;
@@ -39,6 +39,20 @@ pub(super) fn contains(variables: &[usize], variable: usize) -> bool
 }
 
 impl Listing {
+    // No variable is listed.
+    pub(super) const EMPTY: Listing = Listing { variables: [0; 8], count: 0 };
+
+    // One variable more; a full list stays as it is.
+    pub(super) fn push(&mut self, variable: usize)
+        ensures { λ _. ⌜ now (self .exit) ≡ pushed (now (self .entry)) variable ⌝ }
+    {
+        let count = self.count;
+        if count < 8 {
+            self.variables[count] = variable;
+            self.count = count + 1;
+        }
+    }
+
     pub(super) fn listed(&self) -> &[usize]
         ensures { λ r. ⌜ now r ≡ listedIn (now (self .entry)) ⌝ }
     {

@@ -8,8 +8,8 @@ ghost use lib.ListN.{length};
 ghost use Rattle.jcode.specs.declared.statement_reader.Verb.the-variants as verb;
 ghost use Rattle.jcode.specs.Pieces.{Reads};
 ghost use Rattle.jcode.specs.Scopes.{scopeOf, listedIn};
-ghost use Rattle.jcode.specs.Sentences.{listingOf, verbOf};
-ghost use Rattle.jcode.specs.ReadStatements.{readSingle, readAgain, readRepeated, readTarget, closesAt, readUnseen, readListing, readTextEnd, readLabelEnd, byVerb, Lays};
+ghost use Rattle.jcode.specs.Sentences.{verbOf};
+ghost use Rattle.jcode.specs.ReadStatements.{readSingle, readAgain, readRepeated, readTarget, closesAt, readUnseen, readMoreListed, readListed, readTextEnd, readLabelEnd, byVerb, Lays};
 use super::cursor::Cursor;
 use super::mention::UnitRow;
 use super::refusal::ReadFault;
@@ -144,5 +144,34 @@ impl Cursor<'_> {
             return Err(known);
         }
         Ok(variable)
+    }
+
+    // What follows the first listed name, up to the closing bracket.
+    fn more(&mut self, scope: Scope, first: usize) -> Result<Listing, ReadFault>
+        ensures { λ r. ⌜ Reads (readMoreListed (scopeOf (scope .entry)) first) (now (self .entry)) r (now (self .exit)) ⌝ }
+    {
+        let mut listing = Listing::EMPTY;
+        listing.push(first);
+        while !self.closes() {
+            self.gap()?;
+            let variable = self.unseen(scope, listing)?;
+            listing.push(variable);
+        }
+        self.close()?;
+        Ok(listing)
+    }
+
+    // Names in brackets.
+    fn listing(&mut self, scope: Scope) -> Result<Listing, ReadFault>
+        ensures { λ r. ⌜ Reads (readListed (scopeOf (scope .entry))) (now (self .entry)) r (now (self .exit)) ⌝ }
+    {
+        self.byte(b'(')?;
+        self.may_gap();
+        if self.peek() == b')' {
+            self.at += 1;
+            return Ok(Listing::EMPTY);
+        }
+        let first = self.variable(scope)?;
+        self.more(scope, first)
     }
 }

@@ -1,0 +1,115 @@
+-- Lists of names, one name more at a time.
+use mathlib.Core.Path.{_≡_, refl, sym, ap, _∙_}
+use mathlib.Core.Bool.{Bool, true, false}
+use mathlib.Core.List.{List, [], _∷_, _++_}
+use mathlib.Core.Logic.{⊎-elim}
+use Prim.Native.Nat.{ℕ, zero, suc, _+_, _-_, _≤_, _<_}
+use native.Mathlib.Omega.{arith}
+use lib.Dec.{leb}
+use lib.ListN.{length, set, take, replicate}
+use Rattle.std.specs.declared.result.Result.the-variants.{Ok, Err}
+use Rattle.std.proofs.shelf.Lists.{set-at, append-assoc, length-push, take-at}
+use Rattle.std.proofs.shelf.Tests.{cond-true, cond-false, lt-ltb, lt-leb, le-leb, leb-false, cases-lt}
+use Rattle.jcode.specs.declared.cursor.Cursor.{Cursor}
+use Rattle.jcode.specs.declared.refusal.ReadFault.{ReadFault}
+use Rattle.jcode.specs.declared.statement.Listing.{Listing}
+use Rattle.jcode.specs.Pieces.{Answer, got, refused, Reader, andThen, _▷_, readGap, readName, Reads}
+use Rattle.jcode.specs.Scopes.{Scope, listedIn, pushed}
+use Rattle.jcode.specs.ReadTerms.{readClose}
+use Rattle.jcode.specs.Sentences.{listingOf}
+use Rattle.jcode.specs.ReadStatements.{closesAt, readUnseen, readMore}
+use Rattle.jcode.proofs.Chains.{on, off, read-in, refused-in, reads-after}
+
+pub listed-is : (vs : List ℕ) → listedIn (listingOf vs) ≡ vs
+listed-is vs = take-at vs (replicate (8 - length vs) 0) (length vs) refl
+
+pub pushed-is : (vs : List ℕ) (v : ℕ) → length vs < 8 → pushed (listingOf vs) v ≡ listingOf (vs ++ v ∷ [])
+pushed-is vs v h =
+    let e : 8 - length vs ≡ suc (8 - length (vs ++ v ∷ [])) = omega (arith, length-push vs v) in
+    let variables : set (vs ++ replicate (8 - length vs) 0) (length vs) v ≡ (vs ++ v ∷ []) ++ replicate (8 - length (vs ++ v ∷ [])) 0 =
+        ap (λ n. set (vs ++ replicate n 0) (length vs) v) e
+        ∙ set-at vs 0 (replicate (8 - length (vs ++ v ∷ [])) 0) v (length vs) refl
+        ∙ sym (append-assoc vs (v ∷ []) (replicate (8 - length (vs ++ v ∷ [])) 0)) in
+    cond-true _ _ _ (lt-ltb (length vs) 8 h) ∙ (λ k. record { variables = variables k; count = sym (length-push vs v) k })
+
+pub push-count : (l : Listing) (v : ℕ) → l .count < 8 → pushed l v .count ≡ l .count + 1
+push-count l v h = ap (λ x. x .count) (cond-true _ _ l (lt-ltb (l .count) 8 h))
+
+-- a listing with its names
+abbrev pub Proper : Listing → Type 0
+Proper l = l ≡ listingOf (listedIn l)
+
+pub push-listed : (l : Listing) (v : ℕ) → Proper l → l .count < 8 → listedIn (pushed l v) ≡ listedIn l ++ v ∷ []
+push-listed l v e h =
+    let n : length (listedIn l) ≡ l .count = sym (ap (λ x. x .count) e) in
+    ap (λ x. listedIn (pushed x v)) e ∙ ap listedIn (pushed-is (listedIn l) v (omega arith)) ∙ listed-is (listedIn l ++ v ∷ [])
+
+pub push-proper : (l : Listing) (v : ℕ) → Proper l → l .count < 8 → Proper (pushed l v)
+push-proper l v e h =
+    let n : length (listedIn l) ≡ l .count = sym (ap (λ x. x .count) e) in
+    ap (λ x. pushed x v) e ∙ pushed-is (listedIn l) v (omega arith) ∙ ap listingOf (sym (push-listed l v e h))
+
+abbrev isZero : ℕ → Bool
+isZero zero = true
+isZero (suc n) = false
+
+full : (count : ℕ) → leb 8 count ≡ isZero (8 - count)
+full count =
+    ⊎-elim
+    (λ h. let e : 8 - count ≡ suc (7 - count) = omega arith in lt-leb 8 count h ∙ sym (ap isZero e))
+    (λ h. let e : 8 - count ≡ 0 = omega arith in le-leb 8 count h ∙ sym (ap isZero e))
+    (cases-lt count 8)
+
+-- what comes after one name more
+abbrev rest : Scope → ℕ → List ℕ → List ℕ → ℕ → ℕ → Answer (List ℕ)
+rest sc zero vs bytes v j = got vs j
+rest sc (suc k) vs bytes v j = readMore sc k (vs ++ v ∷ []) bytes j
+
+open-more : (sc : Scope) (left : ℕ) (vs bytes : List ℕ) (at : ℕ) → closesAt bytes at ≡ false → andThen ((readGap ▷ readUnseen sc (isZero left) vs) bytes at) (rest sc left vs bytes) ≡ readMore sc left vs bytes at
+open-more sc zero vs bytes at e = sym (cond-false _ _ _ e)
+open-more sc (suc k) vs bytes at e = sym (cond-false _ _ _ e)
+
+closed-more : (sc : Scope) (left : ℕ) (vs bytes : List ℕ) (at : ℕ) → closesAt bytes at ≡ true → andThen (readClose bytes at) (λ _ j. got vs j) ≡ readMore sc left vs bytes at
+closed-more sc zero vs bytes at e = sym (cond-true _ _ _ e)
+closed-more sc (suc k) vs bytes at e = sym (cond-true _ _ _ e)
+
+nothing : {A B : Type 0} {b : B} {j : ℕ} (o : Answer A) (y : ReadFault) → got b j ≡ andThen o (λ s i. refused y) → ⊥
+nothing (got a i) y e = let z : _≡_ {A = ℕ} 0 1 = cc in omega arith
+nothing (refused f) y e = let z : _≡_ {A = ℕ} 0 1 = cc in omega arith
+
+-- a full list takes no more
+pub never-full : (sc : Scope) (b : Bool) (vs : List ℕ) (c d : Cursor) (v : ℕ) → Reads (readUnseen sc b vs) c (Ok v) d → b ≡ false
+unfolding readUnseen
+never-full sc true vs c d v h = absurd (nothing (readName (c .bytes .now) (c .at)) _ (h .value))
+never-full sc false vs c d v h = refl
+
+pub room-left : (sc : Scope) (l : Listing) (c d : Cursor) (v : ℕ) → Reads (readUnseen sc (leb 8 (l .count)) (listedIn l)) c (Ok v) d → l .count < 8
+room-left sc l c d v h = leb-false 8 (l .count) (never-full sc (leb 8 (l .count)) (listedIn l) c d v h)
+
+module _ (sc : Scope) (l : Listing) (bytes : List ℕ) (whole : Answer (List ℕ)) (c : Cursor) (same : c .bytes .now ≡ bytes) (goal : readMore sc (8 - l .count) (listedIn l) bytes (c .at) ≡ whole) where
+  module _ (more : closesAt bytes (c .at) ≡ false) where
+    onward : andThen ((readGap ▷ readUnseen sc (leb 8 (l .count)) (listedIn l)) bytes (c .at)) (rest sc (8 - l .count) (listedIn l) bytes) ≡ whole
+    onward = ap (λ b. andThen ((readGap ▷ readUnseen sc b (listedIn l)) bytes (c .at)) (rest sc (8 - l .count) (listedIn l) bytes)) (full (l .count)) ∙ open-more sc (8 - l .count) (listedIn l) bytes (c .at) more ∙ goal
+
+    pub gap-refused : {d : Cursor} {y : ReadFault} → Reads readGap c (Err y) d → refused y ≡ whole
+    gap-refused h = off (rest sc (8 - l .count) (listedIn l) bytes) (off (λ _ i. readUnseen sc (leb 8 (l .count)) (listedIn l) bytes i) (refused-in same h)) ∙ onward
+
+    module _ (d e : Cursor) {u : Unit {0}} (gap : Reads readGap c (Ok u) d) where
+      pub unseen-refused : {y : ReadFault} → Reads (readUnseen sc (leb 8 (l .count)) (listedIn l)) d (Err y) e → refused y ≡ whole
+      unseen-refused h = off (rest sc (8 - l .count) (listedIn l) bytes) (refused-in same (reads-after gap h)) ∙ onward
+
+      pub unseen-read : (v : ℕ) → Proper l → l .count < 8 → Reads (readUnseen sc (leb 8 (l .count)) (listedIn l)) d (Ok v) e → readMore sc (8 - pushed l v .count) (listedIn (pushed l v)) bytes (e .at) ≡ whole
+      unseen-read v p h k =
+          let n : 8 - l .count ≡ suc (8 - (l .count + 1)) = omega arith in
+          let m = push-count l v h in
+          (λ i. readMore sc (8 - m i) (push-listed l v p h i) bytes (e .at))
+          ∙ sym (ap (λ k. rest sc k (listedIn l) bytes v (e .at)) n)
+          ∙ on (rest sc (8 - l .count) (listedIn l) bytes) (read-in same (reads-after gap k)) refl
+          ∙ onward
+
+  module _ (closes : closesAt bytes (c .at) ≡ true) where
+    pub list-closed : {d : Cursor} {u : Unit {0}} → Reads readClose c (Ok u) d → got (listedIn l) (d .at) ≡ whole
+    list-closed h = on (λ _ j. got (listedIn l) j) (read-in same h) refl ∙ closed-more sc (8 - l .count) (listedIn l) bytes (c .at) closes ∙ goal
+
+    pub list-unclosed : {d : Cursor} {y : ReadFault} → Reads readClose c (Err y) d → refused y ≡ whole
+    list-unclosed h = off (λ _ j. got (listedIn l) j) (refused-in same h) ∙ closed-more sc (8 - l .count) (listedIn l) bytes (c .at) closes ∙ goal
