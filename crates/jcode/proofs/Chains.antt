@@ -74,3 +74,11 @@ refuses-pair {c = c} {a = a} q h k = record {
 pub reads-giving : {A B : Type 0} {r : Reader A} {c d : Cursor} {a : A} (f : A → B) → Reads r c (Ok a) d → Reads (r giving f) c (Ok (f a)) d
 reads-giving f h = record { value = on (λ a i. got (f a) i) (h .value) refl; same = h .same }
 
+pub assoc : {A B C : Type 0} (o : Answer A) (f : A → ℕ → Answer B) (g : B → ℕ → Answer C) → andThen o (λ a i. andThen (f a i) g) ≡ andThen (andThen o f) g
+assoc (got a i) f g = refl
+assoc (refused y) f g = refl
+
+-- a reader by another that reads the same
+pub reads-as : {A : Type 0} {r : Reader A} (q : Reader A) {c d : Cursor} {x : Result A ReadFault} → ((bytes : List ℕ) (at : ℕ) → r bytes at ≡ q bytes at) → Reads r c x d → Reads q c x d
+reads-as q {c = c} e h = record { value = h .value ∙ e (c .bytes .now) (c .at); same = h .same }
+

@@ -6,19 +6,20 @@ use mathlib.Core.Logic.{⊎-elim}
 use Prim.Native.Nat.{ℕ, zero, suc, _+_, _-_, _≤_, _<_}
 use native.Mathlib.Omega.{arith}
 use lib.Dec.{leb}
-use lib.ListN.{length, set, take, replicate}
+use lib.ListN.{length, getD, set, take, replicate}
+use Rattle.std.specs.declared.result.Result.{Result}
 use Rattle.std.specs.declared.result.Result.the-variants.{Ok, Err}
 use Rattle.std.proofs.shelf.Lists.{set-at, append-assoc, length-push, take-at}
-use Rattle.std.proofs.shelf.Tests.{cond-true, cond-false, lt-ltb, lt-leb, le-leb, leb-false, cases-lt}
+use Rattle.std.proofs.shelf.Tests.{cond-true, cond-false, eq-eqb, ne-eqb, lt-ltb, lt-leb, le-leb, leb-false, cases-lt}
 use Rattle.jcode.specs.declared.cursor.Cursor.{Cursor}
 use Rattle.jcode.specs.declared.refusal.ReadFault.{ReadFault}
 use Rattle.jcode.specs.declared.statement.Listing.{Listing}
-use Rattle.jcode.specs.Pieces.{Answer, got, refused, Reader, andThen, _▷_, readGap, readName, Reads}
+use Rattle.jcode.specs.Pieces.{Answer, got, refused, Reader, andThen, _▷_, readGap, readMayGap, readByte, readName, Reads}
 use Rattle.jcode.specs.Scopes.{Scope, listedIn, pushed}
-use Rattle.jcode.specs.ReadTerms.{readClose}
+use Rattle.jcode.specs.ReadTerms.{readClose, readVariable}
 use Rattle.jcode.specs.Sentences.{listingOf}
-use Rattle.jcode.specs.ReadStatements.{closesAt, readUnseen, readMore}
-use Rattle.jcode.proofs.Chains.{on, off, read-in, refused-in, reads-after}
+use Rattle.jcode.specs.ReadStatements.{closesAt, readUnseen, readMore, readMoreListed, readNames, readNamesListed, readListing, readListed}
+use Rattle.jcode.proofs.Chains.{on, off, read-in, refused-in, reads-after, assoc, reads-as}
 
 pub listed-is : (vs : List ℕ) → listedIn (listingOf vs) ≡ vs
 listed-is vs = take-at vs (replicate (8 - length vs) 0) (length vs) refl
@@ -113,3 +114,27 @@ module _ (sc : Scope) (l : Listing) (bytes : List ℕ) (whole : Answer (List ℕ
 
     pub list-unclosed : {d : Cursor} {y : ReadFault} → Reads readClose c (Err y) d → refused y ≡ whole
     list-unclosed h = off (λ _ j. got (listedIn l) j) (refused-in same h) ∙ closed-more sc (8 - l .count) (listedIn l) bytes (c .at) closes ∙ goal
+
+-- from the first name on
+pub names-none : (sc : Scope) (bytes : List ℕ) (at : ℕ) → getD bytes at 0 ≡ 41 → got (listingOf []) (at + 1) ≡ readNamesListed sc bytes at
+unfolding readNames
+names-none sc bytes at e = sym (ap (λ a. andThen a (λ vs j. got (listingOf vs) j)) (cond-true _ (got [] (at + 1)) (andThen (readVariable sc bytes at) (λ v j. readMore sc 7 (v ∷ []) bytes j)) (eq-eqb (getD bytes at 0) 41 e)))
+
+names-are : (sc : Scope) (bytes : List ℕ) (at : ℕ) → (getD bytes at 0 ≡ 41 → ⊥) → andThen (readVariable sc bytes at) (λ v j. readMoreListed sc v bytes j) ≡ readNamesListed sc bytes at
+unfolding readNames
+names-are sc bytes at n =
+    assoc (readVariable sc bytes at) (λ v j. readMore sc 7 (v ∷ []) bytes j) (λ vs j. got (listingOf vs) j)
+    ∙ sym (ap (λ a. andThen a (λ vs j. got (listingOf vs) j)) (cond-false _ (got [] (at + 1)) (andThen (readVariable sc bytes at) (λ v j. readMore sc 7 (v ∷ []) bytes j)) (ne-eqb (getD bytes at 0) 41 n)))
+
+pub names-some : (sc : Scope) (c d : Cursor) (x : Result Listing ReadFault) → (getD (c .bytes .now) (c .at) 0 ≡ 41 → ⊥) → Reads (λ bytes at. andThen (readVariable sc bytes at) (λ v j. readMoreListed sc v bytes j)) c x d → Reads (readNamesListed sc) c x d
+names-some sc c d x n h = record { value = h .value ∙ names-are sc (c .bytes .now) (c .at) n; same = h .same }
+
+pub listed-as : (sc : Scope) {c d : Cursor} {x : Result Listing ReadFault} → Reads (readByte 40 ▷ (readMayGap ▷ readNamesListed sc)) c x d → Reads (readListed sc) c x d
+unfolding readListing
+listed-as sc h =
+    reads-as (readListed sc)
+    (λ bytes at.
+      ap (andThen (readByte 40 bytes at)) (λ k _ i. assoc (readMayGap bytes i) (λ _ j. readNames sc bytes j) (λ vs j. got (listingOf vs) j) k)
+      ∙ assoc (readByte 40 bytes at) (λ _ i. andThen (readMayGap bytes i) (λ _ j. readNames sc bytes j)) (λ vs j. got (listingOf vs) j))
+    h
+

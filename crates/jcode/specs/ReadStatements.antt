@@ -68,7 +68,7 @@ readMore sc (suc left) seen bytes at =
     ((readClose giving (λ _. seen)) bytes at)
     (andThen ((readGap ▷ readUnseen sc false seen) bytes at) (λ v j. readMore sc left (seen ++ v ∷ []) bytes j))
 
-abbrev pub readNames : Scope → Reader (List ℕ)
+unfoldable pub readNames : Scope → Reader (List ℕ)
 readNames sc bytes at =
     cond (eqb (getD bytes at 0) 41)
     (got [] (at + 1))
@@ -78,9 +78,12 @@ readNames sc bytes at =
 unfoldable pub readListing : Scope → Reader (List ℕ)
 readListing sc = readByte 40 ▷ (readMayGap ▷ readNames sc)
 
--- the listed names as their record, after the first, and from the opening bracket on
+-- the listed names as their record: after the first, from the first on, and from the opening bracket on
 abbrev pub readMoreListed : Scope → ℕ → Reader Listing
 readMoreListed sc first = readMore sc 7 (first ∷ []) giving listingOf
+
+abbrev pub readNamesListed : Scope → Reader Listing
+readNamesListed sc = readNames sc giving listingOf
 
 abbrev pub readListed : Scope → Reader Listing
 readListed sc = readListing sc giving listingOf

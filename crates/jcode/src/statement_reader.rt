@@ -9,7 +9,7 @@ ghost use Rattle.jcode.specs.declared.statement_reader.Verb.the-variants as ve
 ghost use Rattle.jcode.specs.Pieces.{Reads};
 ghost use Rattle.jcode.specs.Scopes.{scopeOf, listedIn};
 ghost use Rattle.jcode.specs.Sentences.{verbOf};
-ghost use Rattle.jcode.specs.ReadStatements.{readSingle, readAgain, readRepeated, readTarget, closesAt, readUnseen, readMoreListed, readListed, readTextEnd, readLabelEnd, byVerb, Lays};
+ghost use Rattle.jcode.specs.ReadStatements.{readSingle, readAgain, readRepeated, readTarget, closesAt, readUnseen, readMoreListed, readNamesListed, readListed, readTextEnd, readLabelEnd, byVerb, Lays};
 use super::cursor::Cursor;
 use super::mention::UnitRow;
 use super::refusal::ReadFault;
@@ -161,17 +161,24 @@ impl Cursor<'_> {
         Ok(listing)
     }
 
-    // Names in brackets.
-    fn listing(&mut self, scope: Scope) -> Result<Listing, ReadFault>
-        ensures { λ r. ⌜ Reads (readListed (scopeOf (scope .entry))) (now (self .entry)) r (now (self .exit)) ⌝ }
+    // Listed names, up to the closing bracket.
+    fn names(&mut self, scope: Scope) -> Result<Listing, ReadFault>
+        ensures { λ r. ⌜ Reads (readNamesListed (scopeOf (scope .entry))) (now (self .entry)) r (now (self .exit)) ⌝ }
     {
-        self.byte(b'(')?;
-        self.may_gap();
         if self.peek() == b')' {
             self.at += 1;
             return Ok(Listing::EMPTY);
         }
         let first = self.variable(scope)?;
         self.more(scope, first)
+    }
+
+    // Names in brackets.
+    fn listing(&mut self, scope: Scope) -> Result<Listing, ReadFault>
+        ensures { λ r. ⌜ Reads (readListed (scopeOf (scope .entry))) (now (self .entry)) r (now (self .exit)) ⌝ }
+    {
+        self.byte(b'(')?;
+        self.may_gap();
+        self.names(scope)
     }
 }
