@@ -5,3 +5,4 @@ pub mod Names
 pub mod Stores
 pub mod Chains
 pub mod Listings
+pub mod Laying

@@ -13,13 +13,15 @@ use Rattle.jcode.specs.declared.refusal.Refusal.the-variants.{Limit, Name}
 use Rattle.jcode.specs.declared.span.Span.{Span}
 use Rattle.jcode.specs.declared.statement.Listing.{Listing}
 use Rattle.jcode.specs.declared.statement.Statement.{Statement}
+use Rattle.jcode.specs.declared.statement.Statement.the-variants as stands
+use Rattle.jcode.specs.declared.statement.Term.{Term}
 use Rattle.jcode.specs.declared.statement_reader.Verb.{Verb}
 use Rattle.jcode.specs.declared.statement_reader.Verb.the-variants as verb
 use Rattle.jcode.specs.Pieces.{Answer, got, refused, Reader, refuse, andThen, _▷_, _◁_, _⊗_, _giving_, whiteRun, readByte, readGap, readEnd, readMayGap, readName, readLabel, readText}
 use Rattle.jcode.specs.Scopes.{Scope, member}
 use Rattle.jcode.specs.Tables.{put}
 use Rattle.jcode.specs.ReadTerms.{UnitRow, toldRows, readVariable, readClose, readTerm}
-use Rattle.jcode.specs.Sentences.{Sentence, Hang, Break, Require, Proclaim, New, Assign, Split, When, Branch, Join, rowsOf, listingOf, laid}
+use Rattle.jcode.specs.Sentences.{Sentence, Hang, Break, Require, Proclaim, New, Assign, Split, When, Branch, Join, rowsOf, listingOf, termAt, laid}
 
 abbrev pub nesting : ℕ
 nesting = 32
@@ -98,6 +100,9 @@ readTextEnd = readMayGap ▷ (readText ◁ readEnd)
 unfoldable pub readLabelEnd : Reader ℕ
 readLabelEnd = readMayGap ▷ (readLabel ◁ readEnd)
 
+unfoldable pub readGapLabel : Reader ℕ
+readGapLabel = readGap ▷ (readLabel ◁ readEnd)
+
 -- what follows a statement's word, after so many rows, where the row table has this room
 abbrev pub byVerb : Scope → ℕ → ℕ → Verb → Reader (Sentence Span)
 byVerb sc room used verb.Break = readTextEnd giving Break
@@ -110,11 +115,20 @@ byVerb sc room used verb.New =
 byVerb sc room used verb.Assign =
     (readGap ▷ (readTarget sc ⊗ λ _. readMayGap ▷ (readExpression sc room used ⊗ λ e. readMayGap ▷ (readExpression sc room (used + length e) ◁ readEnd))))
     giving (λ p. Assign (p .0) (p .1 .0) (p .1 .1))
-byVerb sc room used verb.Split = (readGap ▷ (readLabel ◁ readEnd)) giving Split
+byVerb sc room used verb.Split = readGapLabel giving Split
 byVerb sc room used verb.When = (readGap ▷ (readExpression sc room used ⊗ λ _. readLabelEnd)) giving (λ p. When (p .0) (p .1))
 byVerb sc room used verb.Branch = (readGap ▷ (readText ⊗ λ _. readLabelEnd)) giving (λ p. Branch (p .0) (p .1))
-byVerb sc room used verb.Join = (readGap ▷ (readLabel ◁ readEnd)) giving Join
+byVerb sc room used verb.Join = readGapLabel giving Join
 byVerb sc room used verb.Hang = readEnd giving (λ _. Hang)
+
+-- a BRANCH as its record, for which no row is needed
+abbrev pub readBranch : Reader Statement
+readBranch = (readGap ▷ (readText ⊗ λ _. readLabelEnd)) giving (λ p. stands.Branch (p .0) (p .1))
+
+-- a call on a cursor reads an expression into the row table
+pub record ReadsTerm (reader : Reader (List UnitRow)) (used : ℕ) (before : Cursor) (rows : List UnitRow) (result : Result Term ReadFault) (after : Cursor) (written : List UnitRow) : Type 0 where
+  pub value : toldRows result written (after .at) ≡ andThen (reader (before .bytes .now) (before .at)) (λ e j. got (termAt used e, put rows used e) j)
+  pub same : after .bytes .now ≡ before .bytes .now
 
 -- a statement that is read goes into the tables: its record, and its rows after those that are used
 abbrev pub laidOut : ℕ → List UnitRow → Answer (Sentence Span) → Answer (Statement × List UnitRow)

@@ -1,15 +1,15 @@
 // Reading statements, with their terms into the row table.
 
 ghost use mathlib.Core.Path.{_≡_};
-ghost use mathlib.Core.List.{_++_, _∷_, []};
-ghost use Prim.Native.Nat.{_<_, _≤_, _+_, _-_};
+ghost use Prim.Native.Nat.{_<_, _+_, _^_};
 ghost use lib.Dec.{leb};
 ghost use lib.ListN.{length};
+ghost use Rattle.std.specs.Vec.{made};
 ghost use Rattle.jcode.specs.declared.statement_reader.Verb.the-variants as verb;
 ghost use Rattle.jcode.specs.Pieces.{Reads};
 ghost use Rattle.jcode.specs.Scopes.{scopeOf, listedIn};
 ghost use Rattle.jcode.specs.Sentences.{verbOf};
-ghost use Rattle.jcode.specs.ReadStatements.{readSingle, readAgain, readRepeated, readTarget, closesAt, readUnseen, readMoreListed, readNamesListed, readListed, readTextEnd, readLabelEnd, byVerb, Lays};
+ghost use Rattle.jcode.specs.ReadStatements.{readSingle, readAgain, readRepeated, readTarget, closesAt, readUnseen, readMoreListed, readNamesListed, readListed, readTextEnd, readLabelEnd, readGapLabel, readBranch, readExpression, ReadsTerm, byVerb, Lays};
 use super::cursor::Cursor;
 use super::mention::UnitRow;
 use super::refusal::ReadFault;
@@ -180,5 +180,105 @@ impl Cursor<'_> {
         self.byte(b'(')?;
         self.may_gap();
         self.names(scope)
+    }
+
+    // An expression, into the table after the rows that are used.
+    fn expression(&mut self, scope: Scope, rows: &mut [UnitRow], used: usize) -> Result<Term, ReadFault>
+        ensures value { λ r. ⌜ ReadsTerm (readExpression (scopeOf (scope .entry)) (length (now (rows .entry))) used) used (now (self .entry)) (now (rows .entry)) r (now (self .exit)) (now (rows .exit)) ⌝ }
+        ensures within { λ r. ⌜ made r (λ t. used + t .rows < 2 ^ 64) ⌝ }
+    {
+        let next = self.term(scope, rows, used, NESTING)?;
+        Ok(Term { first: used, rows: next - used })
+    }
+
+    fn require(&mut self, scope: Scope, rows: &mut [UnitRow], used: usize) -> Result<Statement, ReadFault>
+        ensures { λ r. ⌜ Lays (byVerb (scopeOf (scope .entry)) (length (now (rows .entry))) used verb.Require) used (now (self .entry)) (now (rows .entry)) r (now (self .exit)) (now (rows .exit)) ⌝ }
+    {
+        self.gap()?;
+        let condition = self.expression(scope, rows, used)?;
+        let text = self.text_end()?;
+        Ok(Statement::Require { condition, text })
+    }
+
+    fn proclaim(&mut self, scope: Scope, rows: &mut [UnitRow], used: usize) -> Result<Statement, ReadFault>
+        ensures { λ r. ⌜ Lays (byVerb (scopeOf (scope .entry)) (length (now (rows .entry))) used verb.Proclaim) used (now (self .entry)) (now (rows .entry)) r (now (self .exit)) (now (rows .exit)) ⌝ }
+    {
+        self.gap()?;
+        let condition = self.expression(scope, rows, used)?;
+        self.end()?;
+        Ok(Statement::Proclaim { condition })
+    }
+
+    fn new_values(&mut self, scope: Scope, rows: &mut [UnitRow], used: usize) -> Result<Statement, ReadFault>
+        ensures { λ r. ⌜ Lays (byVerb (scopeOf (scope .entry)) (length (now (rows .entry))) used verb.New) used (now (self .entry)) (now (rows .entry)) r (now (self .exit)) (now (rows .exit)) ⌝ }
+    {
+        self.gap()?;
+        let listing = self.listing(scope)?;
+        self.may_gap();
+        let within = Scope { bytes: scope.bytes, variables: scope.variables, listing };
+        let condition = self.expression(within, rows, used)?;
+        let text = self.text_end()?;
+        Ok(Statement::New { listing, condition, text })
+    }
+
+    fn assign(&mut self, scope: Scope, rows: &mut [UnitRow], used: usize) -> Result<Statement, ReadFault>
+        ensures { λ r. ⌜ Lays (byVerb (scopeOf (scope .entry)) (length (now (rows .entry))) used verb.Assign) used (now (self .entry)) (now (rows .entry)) r (now (self .exit)) (now (rows .exit)) ⌝ }
+    {
+        self.gap()?;
+        let variable = self.target(scope)?;
+        self.may_gap();
+        let shadow = self.expression(scope, rows, used)?;
+        self.may_gap();
+        let value = self.expression(scope, rows, used + shadow.rows)?;
+        self.end()?;
+        Ok(Statement::Assign { variable, shadow, value })
+    }
+
+    fn when(&mut self, scope: Scope, rows: &mut [UnitRow], used: usize) -> Result<Statement, ReadFault>
+        ensures { λ r. ⌜ Lays (byVerb (scopeOf (scope .entry)) (length (now (rows .entry))) used verb.When) used (now (self .entry)) (now (rows .entry)) r (now (self .exit)) (now (rows .exit)) ⌝ }
+    {
+        self.gap()?;
+        let condition = self.expression(scope, rows, used)?;
+        let label = self.label_end()?;
+        Ok(Statement::When { condition, label })
+    }
+
+    fn label_after_gap(&mut self) -> Result<u16, ReadFault>
+        ensures { λ r. ⌜ Reads readGapLabel (now (self .entry)) r (now (self .exit)) ⌝ }
+    {
+        self.gap()?;
+        let label = self.label()?;
+        self.end()?;
+        Ok(label)
+    }
+
+    fn branch(&mut self) -> Result<Statement, ReadFault>
+        ensures { λ r. ⌜ Reads readBranch (now (self .entry)) r (now (self .exit)) ⌝ }
+    {
+        self.gap()?;
+        let text = self.text()?;
+        let label = self.label_end()?;
+        Ok(Statement::Branch { text, label })
+    }
+
+    // What follows a statement's word; the rows of its terms go into the table after those that are used.
+    pub(super) fn statement(&mut self, verb: Verb, scope: Scope, rows: &mut [UnitRow], used: usize) -> Result<Statement, ReadFault>
+        ensures { λ r. ⌜ Lays (byVerb (scopeOf (scope .entry)) (length (now (rows .entry))) used verb) used (now (self .entry)) (now (rows .entry)) r (now (self .exit)) (now (rows .exit)) ⌝ }
+    {
+        match verb {
+            Verb::Break => Ok(Statement::Break { text: self.text_end()? }),
+            Verb::Require => self.require(scope, rows, used),
+            Verb::Proclaim => self.proclaim(scope, rows, used),
+            Verb::New => self.new_values(scope, rows, used),
+            Verb::Assign => self.assign(scope, rows, used),
+            Verb::Split => Ok(Statement::Split { label: self.label_after_gap()? }),
+            Verb::When => self.when(scope, rows, used),
+            Verb::Branch => self.branch(),
+            Verb::Join => Ok(Statement::Join { label: self.label_after_gap()? }),
+            Verb::Hang => {
+                self.end()?;
+                Ok(Statement::Hang)
+            }
+        }
     }
 }
