@@ -4,5 +4,6 @@ pub mod Values
 pub mod Names
 pub mod Stores
 pub mod Chains
+pub mod Repeats
 pub mod Listings
 pub mod Laying

@@ -14,11 +14,12 @@ use Rattle.std.proofs.shelf.Tests.{cond-true, cond-false, eq-eqb, ne-eqb, lt-lt
 use Rattle.jcode.specs.declared.cursor.Cursor.{Cursor}
 use Rattle.jcode.specs.declared.refusal.ReadFault.{ReadFault}
 use Rattle.jcode.specs.declared.statement.Listing.{Listing}
-use Rattle.jcode.specs.Pieces.{Answer, got, refused, Reader, andThen, _▷_, readGap, readMayGap, readByte, readName, Reads}
+use Rattle.jcode.specs.Pieces.{Answer, got, refused, Reader, andThen, _▷_, _giving_, readGap, readMayGap, readByte, readName, Reads}
 use Rattle.jcode.specs.Scopes.{Scope, listedIn, pushed}
 use Rattle.jcode.specs.ReadTerms.{readClose, readVariable}
 use Rattle.jcode.specs.Sentences.{listingOf}
-use Rattle.jcode.specs.ReadStatements.{closesAt, readUnseen, readMore, readMoreListed, readNames, readNamesListed, readListing, readListed}
+use Rattle.jcode.specs.ReadStatements.{goesOn, readUnseen, readMore, readMoreListed, readNames, readNamesListed, readListing, readListed}
+use Rattle.jcode.proofs.Repeats.{step-refused, step-read, all-done}
 use Rattle.jcode.proofs.Chains.{on, off, read-in, refused-in, reads-after, assoc, reads-as}
 
 pub listed-is : (vs : List ℕ) → listedIn (listingOf vs) ≡ vs
@@ -50,30 +51,6 @@ push-proper l v e h =
     let n : length (listedIn l) ≡ l .count = sym (ap (λ x. x .count) e) in
     ap (λ x. pushed x v) e ∙ pushed-is (listedIn l) v (omega arith) ∙ ap listingOf (sym (push-listed l v e h))
 
-abbrev isZero : ℕ → Bool
-isZero zero = true
-isZero (suc n) = false
-
-full : (count : ℕ) → leb 8 count ≡ isZero (8 - count)
-full count =
-    ⊎-elim
-    (λ h. let e : 8 - count ≡ suc (7 - count) = omega arith in lt-leb 8 count h ∙ sym (ap isZero e))
-    (λ h. let e : 8 - count ≡ 0 = omega arith in le-leb 8 count h ∙ sym (ap isZero e))
-    (cases-lt count 8)
-
--- what comes after one name more
-abbrev rest : Scope → ℕ → List ℕ → List ℕ → ℕ → ℕ → Answer (List ℕ)
-rest sc zero vs bytes v j = got vs j
-rest sc (suc k) vs bytes v j = readMore sc k (vs ++ v ∷ []) bytes j
-
-open-more : (sc : Scope) (left : ℕ) (vs bytes : List ℕ) (at : ℕ) → closesAt bytes at ≡ false → andThen ((readGap ▷ readUnseen sc (isZero left) vs) bytes at) (rest sc left vs bytes) ≡ readMore sc left vs bytes at
-open-more sc zero vs bytes at e = sym (cond-false _ _ _ e)
-open-more sc (suc k) vs bytes at e = sym (cond-false _ _ _ e)
-
-closed-more : (sc : Scope) (left : ℕ) (vs bytes : List ℕ) (at : ℕ) → closesAt bytes at ≡ true → andThen (readClose bytes at) (λ _ j. got vs j) ≡ readMore sc left vs bytes at
-closed-more sc zero vs bytes at e = sym (cond-true _ _ _ e)
-closed-more sc (suc k) vs bytes at e = sym (cond-true _ _ _ e)
-
 nothing : {A B : Type 0} {b : B} {j : ℕ} (o : Answer A) (y : ReadFault) → got b j ≡ andThen o (λ s i. refused y) → ⊥
 nothing (got a i) y e = let z : _≡_ {A = ℕ} 0 1 = cc in omega arith
 nothing (refused f) y e = let z : _≡_ {A = ℕ} 0 1 = cc in omega arith
@@ -88,32 +65,31 @@ pub room-left : (sc : Scope) (l : Listing) (c d : Cursor) (v : ℕ) → Reads (r
 room-left sc l c d v h = leb-false 8 (l .count) (never-full sc (leb 8 (l .count)) (listedIn l) c d v h)
 
 module _ (sc : Scope) (l : Listing) (bytes : List ℕ) (whole : Answer (List ℕ)) (c : Cursor) (same : c .bytes .now ≡ bytes) (goal : readMore sc (8 - l .count) (listedIn l) bytes (c .at) ≡ whole) where
-  module _ (more : closesAt bytes (c .at) ≡ false) where
-    onward : andThen ((readGap ▷ readUnseen sc (leb 8 (l .count)) (listedIn l)) bytes (c .at)) (rest sc (8 - l .count) (listedIn l) bytes) ≡ whole
-    onward = ap (λ b. andThen ((readGap ▷ readUnseen sc b (listedIn l)) bytes (c .at)) (rest sc (8 - l .count) (listedIn l) bytes)) (full (l .count)) ∙ open-more sc (8 - l .count) (listedIn l) bytes (c .at) more ∙ goal
+  abbrev step : Bool → List ℕ → Reader ℕ
+  step full seen = readGap ▷ readUnseen sc full seen
 
+  abbrev done : List ℕ → Reader (List ℕ)
+  done seen = readClose giving (λ _. seen)
+
+  module _ (more : goesOn bytes (c .at) ≡ true) where
     pub gap-refused : {d : Cursor} {y : ReadFault} → Reads readGap c (Err y) d → refused y ≡ whole
-    gap-refused h = off (rest sc (8 - l .count) (listedIn l) bytes) (off (λ _ i. readUnseen sc (leb 8 (l .count)) (listedIn l) bytes i) (refused-in same h)) ∙ onward
+    gap-refused h = step-refused goesOn step done 8 (l .count) (listedIn l) bytes (c .at) whole goal more (off (λ _ i. readUnseen sc (leb 8 (l .count)) (listedIn l) bytes i) (refused-in same h))
 
     module _ (d e : Cursor) {u : Unit {0}} (gap : Reads readGap c (Ok u) d) where
       pub unseen-refused : {y : ReadFault} → Reads (readUnseen sc (leb 8 (l .count)) (listedIn l)) d (Err y) e → refused y ≡ whole
-      unseen-refused h = off (rest sc (8 - l .count) (listedIn l) bytes) (refused-in same (reads-after gap h)) ∙ onward
+      unseen-refused h = step-refused goesOn step done 8 (l .count) (listedIn l) bytes (c .at) whole goal more (refused-in same (reads-after gap h))
 
       pub unseen-read : (v : ℕ) → Proper l → l .count < 8 → Reads (readUnseen sc (leb 8 (l .count)) (listedIn l)) d (Ok v) e → readMore sc (8 - pushed l v .count) (listedIn (pushed l v)) bytes (e .at) ≡ whole
       unseen-read v p h k =
-          let n : 8 - l .count ≡ suc (8 - (l .count + 1)) = omega arith in
-          let m = push-count l v h in
-          (λ i. readMore sc (8 - m i) (push-listed l v p h i) bytes (e .at))
-          ∙ sym (ap (λ k. rest sc k (listedIn l) bytes v (e .at)) n)
-          ∙ on (rest sc (8 - l .count) (listedIn l) bytes) (read-in same (reads-after gap k)) refl
-          ∙ onward
+          (λ i. readMore sc (8 - push-count l v h i) (push-listed l v p h i) bytes (e .at))
+          ∙ step-read goesOn step done 8 (l .count) (listedIn l) bytes (c .at) whole goal more h v (e .at) (read-in same (reads-after gap k))
 
-  module _ (closes : closesAt bytes (c .at) ≡ true) where
+  module _ (closes : goesOn bytes (c .at) ≡ false) where
     pub list-closed : {d : Cursor} {u : Unit {0}} → Reads readClose c (Ok u) d → got (listedIn l) (d .at) ≡ whole
-    list-closed h = on (λ _ j. got (listedIn l) j) (read-in same h) refl ∙ closed-more sc (8 - l .count) (listedIn l) bytes (c .at) closes ∙ goal
+    list-closed h = on (λ _ j. got (listedIn l) j) (read-in same h) refl ∙ all-done goesOn step done 8 (l .count) (listedIn l) bytes (c .at) whole goal closes
 
     pub list-unclosed : {d : Cursor} {y : ReadFault} → Reads readClose c (Err y) d → refused y ≡ whole
-    list-unclosed h = off (λ _ j. got (listedIn l) j) (refused-in same h) ∙ closed-more sc (8 - l .count) (listedIn l) bytes (c .at) closes ∙ goal
+    list-unclosed h = off (λ _ j. got (listedIn l) j) (refused-in same h) ∙ all-done goesOn step done 8 (l .count) (listedIn l) bytes (c .at) whole goal closes
 
 -- from the first name on
 pub names-none : (sc : Scope) (bytes : List ℕ) (at : ℕ) → getD bytes at 0 ≡ 41 → got (listingOf []) (at + 1) ≡ readNamesListed sc bytes at

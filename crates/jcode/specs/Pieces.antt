@@ -1,7 +1,7 @@
 -- The pieces of the notation: what is read at a place of the bytes and the next place, or the refusal and its place.
 use mathlib.Core.Path.{_≡_}
 use mathlib.Core.Bool.{Bool, true, false, cond, not, _&&_}
-use mathlib.Core.List.{List, [], _∷_}
+use mathlib.Core.List.{List, [], _∷_, _++_}
 use Prim.Native.Nat.{ℕ, zero, suc, _+_, _-_, _*_}
 use lib.Dec.{leb, ltb, eqb}
 use lib.IntN.{ℤ, pos, negℤ}
@@ -48,6 +48,15 @@ _⊗_ r₁ r₂ bytes at = andThen (r₁ bytes at) (λ a i. andThen (r₂ a byte
 -- what is read, as something else
 abbrev pub _giving_ : {A B : Type 0} → Reader A → (A → B) → Reader B
 _giving_ r f bytes at = andThen (r bytes at) (λ a i. got (f a) i)
+
+-- one thing after another, so many at the most, while there is more; `step` is told whether no more may come, and what came before
+abbrev pub repeated : {A : Type 0} → (List ℕ → ℕ → Bool) → (Bool → List A → Reader A) → (List A → Reader (List A)) → ℕ → List A → Reader (List A)
+repeated more step done zero seen bytes at =
+    cond (more bytes at) (andThen (step true seen bytes at) (λ _ j. got seen j)) (done seen bytes at)
+repeated more step done (suc left) seen bytes at =
+    cond (more bytes at)
+    (andThen (step false seen bytes at) (λ a j. repeated more step done left (seen ++ a ∷ []) bytes j))
+    (done seen bytes at)
 
 -- the place after the longest run of a class
 abbrev pub past : (ℕ → Bool) → List ℕ → ℕ → ℕ

@@ -1,6 +1,6 @@
 -- Statements: how they are read.
 use mathlib.Core.Path.{_≡_}
-use mathlib.Core.Bool.{Bool, true, false, cond}
+use mathlib.Core.Bool.{Bool, true, false, cond, not}
 use mathlib.Core.List.{List, [], _∷_, _++_}
 use Prim.Native.Nat.{ℕ, zero, suc, _+_}
 use lib.Dec.{eqb}
@@ -17,7 +17,7 @@ use Rattle.jcode.specs.declared.statement.Statement.the-variants as stands
 use Rattle.jcode.specs.declared.statement.Term.{Term}
 use Rattle.jcode.specs.declared.statement_reader.Verb.{Verb}
 use Rattle.jcode.specs.declared.statement_reader.Verb.the-variants as verb
-use Rattle.jcode.specs.Pieces.{Answer, got, refused, Reader, refuse, andThen, _▷_, _◁_, _⊗_, _giving_, whiteRun, readByte, readGap, readEnd, readMayGap, readName, readLabel, readText}
+use Rattle.jcode.specs.Pieces.{Answer, got, refused, Reader, refuse, andThen, _▷_, _◁_, _⊗_, _giving_, repeated, whiteRun, readByte, readGap, readEnd, readMayGap, readName, readLabel, readText}
 use Rattle.jcode.specs.Scopes.{Scope, member}
 use Rattle.jcode.specs.Tables.{put}
 use Rattle.jcode.specs.ReadTerms.{UnitRow, toldRows, readVariable, readClose, readTerm}
@@ -48,9 +48,9 @@ readRepeated sc v = readMayGap ▷ (readByte 40 ▷ (readMayGap ▷ (readAgain s
 abbrev pub readTarget : Scope → Reader ℕ
 readTarget sc = (readSingle sc ⊗ readRepeated sc) giving (λ p. p .0)
 
--- whether a closing bracket stands here, perhaps after a gap
-abbrev pub closesAt : List ℕ → ℕ → Bool
-closesAt bytes at = eqb (getD bytes (at + whiteRun 32 bytes at) 0) 41
+-- whether no closing bracket stands here, perhaps after a gap
+abbrev pub goesOn : List ℕ → ℕ → Bool
+goesOn bytes at = not (eqb (getD bytes (at + whiteRun 32 bytes at) 0) 41)
 
 -- a variable for a list that may be full, and holds those seen
 unfoldable pub readUnseen : Scope → Bool → List ℕ → Reader ℕ
@@ -61,14 +61,7 @@ readUnseen sc full seen bytes at =
 
 -- what follows the names seen, up to the closing bracket, where there may be so many more
 abbrev pub readMore : Scope → ℕ → List ℕ → Reader (List ℕ)
-readMore sc zero seen bytes at =
-    cond (closesAt bytes at)
-    ((readClose giving (λ _. seen)) bytes at)
-    (andThen ((readGap ▷ readUnseen sc true seen) bytes at) (λ v j. got seen j))
-readMore sc (suc left) seen bytes at =
-    cond (closesAt bytes at)
-    ((readClose giving (λ _. seen)) bytes at)
-    (andThen ((readGap ▷ readUnseen sc false seen) bytes at) (λ v j. readMore sc left (seen ++ v ∷ []) bytes j))
+readMore sc = repeated goesOn (λ full seen. readGap ▷ readUnseen sc full seen) (λ seen. readClose giving (λ _. seen))
 
 unfoldable pub readNames : Scope → Reader (List ℕ)
 readNames sc bytes at =

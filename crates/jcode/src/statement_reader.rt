@@ -9,7 +9,7 @@ ghost use Rattle.jcode.specs.declared.statement_reader.Verb.the-variants as ve
 ghost use Rattle.jcode.specs.Pieces.{Reads};
 ghost use Rattle.jcode.specs.Scopes.{scopeOf, listedIn};
 ghost use Rattle.jcode.specs.Sentences.{verbOf};
-ghost use Rattle.jcode.specs.ReadStatements.{readSingle, readAgain, readRepeated, readTarget, closesAt, readUnseen, readMoreListed, readNamesListed, readListed, readTextEnd, readLabelEnd, readGapLabel, readBranch, readExpression, ReadsTerm, byVerb, Lays};
+ghost use Rattle.jcode.specs.ReadStatements.{readSingle, readAgain, readRepeated, readTarget, goesOn, readUnseen, readMoreListed, readNamesListed, readListed, readTextEnd, readLabelEnd, readGapLabel, readBranch, readExpression, ReadsTerm, byVerb, Lays};
 use super::cursor::Cursor;
 use super::mention::UnitRow;
 use super::refusal::ReadFault;
@@ -120,13 +120,13 @@ impl Cursor<'_> {
         Ok(variable)
     }
 
-    // Whether a closing bracket stands here, perhaps after a gap.
-    fn closes(&self) -> bool
-        ensures { λ r. ⌜ r ≡ closesAt (now (now (self .entry) .bytes)) (now (self .entry) .at) ⌝ }
+    // Whether no closing bracket stands here, perhaps after a gap.
+    fn goes_on(&self) -> bool
+        ensures { λ r. ⌜ r ≡ goesOn (now (now (self .entry) .bytes)) (now (self .entry) .at) ⌝ }
     {
         let mut ahead = *self;
         ahead.may_gap();
-        ahead.peek() == b')'
+        ahead.peek() != b')'
     }
 
     // A variable for a list that may take it.
@@ -152,7 +152,7 @@ impl Cursor<'_> {
     {
         let mut listing = Listing::EMPTY;
         listing.push(first);
-        while !self.closes() {
+        while self.goes_on() {
             self.gap()?;
             let variable = self.unseen(scope, listing)?;
             listing.push(variable);
