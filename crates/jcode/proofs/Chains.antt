@@ -82,3 +82,6 @@ assoc (refused y) f g = refl
 pub reads-as : {A : Type 0} {r : Reader A} (q : Reader A) {c d : Cursor} {x : Result A ReadFault} → ((bytes : List ℕ) (at : ℕ) → r bytes at ≡ q bytes at) → Reads r c x d → Reads q c x d
 reads-as q {c = c} e h = record { value = h .value ∙ e (c .bytes .now) (c .at); same = h .same }
 
+pub reads-then : {A B : Type 0} {r : Reader A} {c d e : Cursor} {a : A} {x : Result B ReadFault} (k : A → Reader B) → Reads r c (Ok a) d → Reads (k a) d x e → Reads (λ bytes at. andThen (r bytes at) (λ a i. k a bytes i)) c x e
+reads-then {c = c} k h q = record { value = on (λ a i. k a (c .bytes .now) i) (h .value) (told-in (h .same) q); same = q .same ∙ h .same }
+

@@ -6,3 +6,4 @@ pub mod Tables
 pub mod ReadTerms
 pub mod Sentences
 pub mod ReadStatements
+pub mod ReadUnits

@@ -2,6 +2,7 @@
 
 mod class;
 mod cursor;
+mod declaration_reader;
 pub mod mention;
 pub mod refusal;
 mod scope;

@@ -1,7 +1,8 @@
 // Scopes: the variables that a term can mention.
 
 ghost use mathlib.Core.Path.{_≡_};
-ghost use Rattle.jcode.specs.Scopes.{indexOf, member, scopeOf, listedIn, pushed};
+ghost use mathlib.Core.List.{map};
+ghost use Rattle.jcode.specs.Scopes.{indexOf, nameIn, member, listedIn, pushed};
 use super::statement::Listing;
 use super::variable::Variable;
 use terms::word::same_word;
@@ -13,18 +14,16 @@ pub struct Scope<'a> {
     pub listing: Listing,
 }
 
-impl Scope<'_> {
-    // The number of the variable with this name.
-    pub(super) fn find(&self, name: &[u8]) -> Option<usize>
-        ensures { λ r. ⌜ r ≡ indexOf (now (name .entry)) (scopeOf (now (self .entry)) .names) ⌝ }
-    {
-        for (i, variable) in self.variables.iter().enumerate() {
-            if same_word(name, variable.name.of(self.bytes)) {
-                return Some(i);
-            }
+// The number of the variable with this name.
+pub(super) fn find_name(bytes: &[u8], variables: &[Variable], name: &[u8]) -> Option<usize>
+    ensures { λ r. ⌜ r ≡ indexOf (now (name .entry)) (map (nameIn (now (bytes .entry))) (now (variables .entry))) ⌝ }
+{
+    for (i, variable) in variables.iter().enumerate() {
+        if same_word(name, variable.name.of(bytes)) {
+            return Some(i);
         }
-        None
     }
+    None
 }
 
 pub(super) fn contains(variables: &[usize], variable: usize) -> bool

@@ -17,6 +17,7 @@ use super::refusal::ReadFault;
 use super::refusal::Refusal;
 use super::scope::Scope;
 use super::scope::contains;
+use super::scope::find_name;
 use super::span::Span;
 use terms::operator::Operator;
 use terms::operator::find;
@@ -79,7 +80,7 @@ impl Cursor<'_> {
     fn known(&self, scope: Scope, name: Span) -> Result<usize, ReadFault>
         ensures { λ r. ⌜ told r (now (self .entry) .at) ≡ known (scopeOf (scope .entry)) (now (now (self .entry) .bytes)) name (now (self .entry) .at) ⌝ }
     {
-        match scope.find(name.of(self.bytes)) {
+        match find_name(scope.bytes, scope.variables, name.of(self.bytes)) {
             Some(variable) => Ok(variable),
             None => Err(ReadFault {
                 refusal: Refusal::Name,

@@ -1,0 +1,100 @@
+-- Declarations and units: how they are read.
+use mathlib.Core.Path.{_≡_}
+use mathlib.Core.Bool.{Bool, true, false, cond, not}
+use mathlib.Core.List.{List, [], _∷_, _++_, map}
+use Prim.Native.Nat.{ℕ, _+_, min}
+use lib.Chars.{codes}
+use lib.Dec.{ltb, eqb}
+use lib.IntN.{ℤ}
+use lib.ListN.{length, getD}
+use lib.Signed.{leZ}
+use Rattle.std.specs.declared.option.Option.{Option}
+use Rattle.std.specs.declared.option.Option.the-variants.{Some, None}
+use Rattle.terms.specs.Words.{sameWord, firstWith}
+use Rattle.jcode.specs.declared.declaration_reader.DomainWord.{DomainWord}
+use Rattle.jcode.specs.declared.declaration_reader.DomainWord.the-variants as word
+use Rattle.jcode.specs.declared.refusal.Refusal.{Refusal}
+use Rattle.jcode.specs.declared.refusal.Refusal.the-variants.{Missing, Number, Limit, Table, Name}
+use Rattle.jcode.specs.declared.span.Span.{Span}
+use Rattle.jcode.specs.declared.statement_reader.Verb.{Verb}
+use Rattle.jcode.specs.declared.variable.Domain.{Domain}
+use Rattle.jcode.specs.declared.variable.Domain.the-variants as domain
+use Rattle.jcode.specs.declared.variable.Variable.{Variable}
+use Rattle.jcode.specs.Bytes.{slice}
+use Rattle.jcode.specs.Pieces.{Answer, got, refused, Reader, refuse, andThen, _▷_, _◁_, _⊗_, _giving_, repeated, whiteRun, readByte, readGap, readEnd, readMayGap, readWord, readName, readKeyword, readNumber}
+use Rattle.jcode.specs.Scopes.{Scope, indexOf, nameIn}
+use Rattle.jcode.specs.ReadTerms.{readClose}
+use Rattle.jcode.specs.Sentences.{Sentence, rowsOf, verbOf}
+use Rattle.jcode.specs.ReadStatements.{byVerb}
+
+abbrev pub domainWord : DomainWord → List ℕ
+domainWord word.Integer = codes "integer"
+domainWord word.Boolean = codes "boolean"
+domainWord word.Subrange = codes "subrange"
+
+abbrev pub domainOf : List ℕ → Option DomainWord
+domainOf w = firstWith domainWord w (word.Integer ∷ word.Boolean ∷ word.Subrange ∷ [])
+
+-- a high bound, not below the low one
+unfoldable pub readHigh : ℤ → Reader Domain
+readHigh low bytes at = andThen (readNumber bytes at) (λ high j. cond (leZ low high) (got (domain.Subrange low high) j) (refuse Number at))
+
+unfoldable pub readBounds : Reader Domain
+readBounds bytes at = andThen ((readGap ▷ readNumber) bytes at) (λ low i. (readGap ▷ readHigh low) bytes i)
+
+abbrev pub byDomain : ℕ → Option DomainWord → Reader Domain
+byDomain at (Some word.Integer) bytes i = got domain.Integer i
+byDomain at (Some word.Boolean) bytes i = got domain.Boolean i
+byDomain at (Some word.Subrange) bytes i = readBounds bytes i
+byDomain at None bytes i = refuse Missing at
+
+unfoldable pub readDomain : Reader Domain
+readDomain bytes at = andThen (readWord bytes at) (λ s j. byDomain at (domainOf (slice bytes s)) bytes j)
+
+-- `: (variable (`
+unfoldable pub readColon : Reader (Unit {0})
+readColon = readMayGap ▷ (readByte 58 ▷ (readMayGap ▷ readByte 40))
+
+unfoldable pub readClass : Reader (Unit {0})
+readClass = readMayGap ▷ (readKeyword (codes "variable") ▷ (readMayGap ▷ (readByte 40 ▷ readMayGap)))
+
+-- `))` and the end
+unfoldable pub readClosing : Reader (Unit {0})
+readClosing = readClose ▷ (readClose ▷ readEnd)
+
+-- what follows a declaration's name
+unfoldable pub readDeclared : Reader Domain
+readDeclared = readColon ▷ (readClass ▷ (readDomain ◁ readClosing))
+
+-- whether a word stands here that a colon follows, perhaps after a gap
+abbrev colonAfter : List ℕ → Answer Span → Bool
+colonAfter bytes (got s j) = eqb (getD bytes (j + whiteRun 32 bytes j) 0) 58
+colonAfter bytes (refused f) = false
+
+abbrev pub opensDeclaration : List ℕ → ℕ → Bool
+opensDeclaration bytes at = colonAfter bytes (readWord bytes at)
+
+abbrev fresh : ℕ → Span → Option ℕ → ℕ → Answer Span
+fresh at s None j = got s j
+fresh at s (Some v) j = refuse Name at
+
+-- a name that none of these variables has
+unfoldable pub readFresh : List Variable → Reader Span
+readFresh seen bytes at = andThen (readName bytes at) (λ s j. fresh at s (indexOf (slice bytes s) (map (nameIn bytes) seen)) j)
+
+abbrev pub readDeclaration : List Variable → Reader Variable
+readDeclaration seen = (readFresh seen ⊗ λ _. readDeclared) giving (λ p. record { name = p .0; domain = p .1 })
+
+-- a declaration, where the table may be full
+unfoldable pub readEntry : Refusal → Bool → List Variable → Reader Variable
+readEntry r full seen bytes at = cond full (andThen (readName bytes at) (λ s j. refuse r at)) (readDeclaration seen bytes at)
+
+-- one record more than a table of this length can take passes the limit, or the table is too short
+abbrev pub fullBy : ℕ → ℕ → Refusal
+fullBy table limit = cond (ltb table limit) Table Limit
+
+abbrev pub variableLimit : ℕ
+variableLimit = 32
+
+abbrev pub readDeclarations : ℕ → ℕ → List Variable → Reader (List Variable)
+readDeclarations table = repeated opensDeclaration (readEntry (fullBy table variableLimit)) (λ seen bytes at. got seen at)
