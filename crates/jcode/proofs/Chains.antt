@@ -9,7 +9,7 @@ use Rattle.std.proofs.shelf.Results.{err-from-errBy}
 use Rattle.jcode.specs.declared.cursor.Cursor.{Cursor}
 use Rattle.jcode.specs.declared.refusal.ReadFault.{ReadFault}
 use Rattle.jcode.specs.Pieces.{Answer, got, refused, Reader, andThen, _▷_, _◁_, _⊗_, _giving_, told, Reads}
-use Rattle.jcode.specs.ReadTerms.{UnitRow, toldRows}
+use Rattle.jcode.specs.ReadTerms.{toldRows}
 
 -- on from what was read, and no further than what was refused
 pub on : {A B : Type 0} {o : Answer A} {a : A} {i : ℕ} {x : Answer B} (f : A → ℕ → Answer B) → got a i ≡ o → x ≡ f a i → x ≡ andThen o f
@@ -22,7 +22,7 @@ off f e = ap (λ o. andThen o f) e
 pub stopped : {A : Type 0} {y : ReadFault} (r : Result A ReadFault) (j : ℕ) → ErrBy r (λ z. z ≡ y) → told r j ≡ refused y
 stopped r j h = let p = err-from-errBy r h in ap (λ q. told q j) (p .1) ∙ ap refused (p .2)
 
-pub stopped-rows : {A : Type 0} {y : ReadFault} (r : Result A ReadFault) (rows : List UnitRow) (j : ℕ) → ErrBy r (λ z. z ≡ y) → toldRows r rows j ≡ refused y
+pub stopped-rows : {A X : Type 0} {y : ReadFault} (r : Result A ReadFault) (rows : X) (j : ℕ) → ErrBy r (λ z. z ≡ y) → toldRows r rows j ≡ refused y
 stopped-rows r rows j h = let p = err-from-errBy r h in ap (λ q. toldRows q rows j) (p .1) ∙ ap refused (p .2)
 
 -- a reading in bytes that are the same

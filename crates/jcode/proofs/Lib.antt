@@ -7,3 +7,6 @@ pub mod Chains
 pub mod Repeats
 pub mod Listings
 pub mod Laying
+pub mod Fillings
+pub mod Declarations
+pub mod Rooms

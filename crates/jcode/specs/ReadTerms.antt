@@ -137,8 +137,8 @@ abbrev pub readTerm : Scope → ℕ → ℕ → ℕ → Reader (List UnitRow)
 readTerm sc room zero used = readBegin sc zero room used giving (λ r. r ∷ [])
 readTerm sc room (suc k) used = readWhole (readBegin sc (suc k) room used) (readTerm sc room k) used
 
--- what a call that writes rows tells: how many there are now, and the table
-abbrev pub toldRows : {A : Type 0} → Result A ReadFault → List UnitRow → ℕ → Answer (A × List UnitRow)
+-- what a call that writes a table tells, with the table
+abbrev pub toldRows : {A X : Type 0} → Result A ReadFault → X → ℕ → Answer (A × X)
 toldRows (Ok a) rows j = got (a, rows) j
 toldRows (Err f) rows j = refused f
 

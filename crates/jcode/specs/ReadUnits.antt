@@ -10,12 +10,16 @@ use lib.ListN.{length, getD}
 use lib.Signed.{leZ}
 use Rattle.std.specs.declared.option.Option.{Option}
 use Rattle.std.specs.declared.option.Option.the-variants.{Some, None}
+use Rattle.std.specs.declared.result.Result.{Result}
 use Rattle.terms.specs.Words.{sameWord, firstWith}
 use Rattle.jcode.specs.declared.declaration_reader.DomainWord.{DomainWord}
 use Rattle.jcode.specs.declared.declaration_reader.DomainWord.the-variants as word
+use Rattle.jcode.specs.declared.cursor.Cursor.{Cursor}
+use Rattle.jcode.specs.declared.refusal.ReadFault.{ReadFault}
 use Rattle.jcode.specs.declared.refusal.Refusal.{Refusal}
 use Rattle.jcode.specs.declared.refusal.Refusal.the-variants.{Missing, Number, Limit, Table, Name}
 use Rattle.jcode.specs.declared.span.Span.{Span}
+use Rattle.jcode.specs.declared.statement.Statement.{Statement}
 use Rattle.jcode.specs.declared.statement_reader.Verb.{Verb}
 use Rattle.jcode.specs.declared.variable.Domain.{Domain}
 use Rattle.jcode.specs.declared.variable.Domain.the-variants as domain
@@ -23,8 +27,9 @@ use Rattle.jcode.specs.declared.variable.Variable.{Variable}
 use Rattle.jcode.specs.Bytes.{slice}
 use Rattle.jcode.specs.Pieces.{Answer, got, refused, Reader, refuse, andThen, _▷_, _◁_, _⊗_, _giving_, repeated, whiteRun, readByte, readGap, readEnd, readMayGap, readWord, readName, readKeyword, readNumber}
 use Rattle.jcode.specs.Scopes.{Scope, indexOf, nameIn}
-use Rattle.jcode.specs.ReadTerms.{readClose}
-use Rattle.jcode.specs.Sentences.{Sentence, rowsOf, verbOf}
+use Rattle.jcode.specs.Tables.{put}
+use Rattle.jcode.specs.ReadTerms.{UnitRow, toldRows, readClose}
+use Rattle.jcode.specs.Sentences.{Sentence, rowsOf, laid, verbOf}
 use Rattle.jcode.specs.ReadStatements.{byVerb}
 
 abbrev pub domainWord : DomainWord → List ℕ
@@ -98,3 +103,45 @@ variableLimit = 32
 
 abbrev pub readDeclarations : ℕ → ℕ → List Variable → Reader (List Variable)
 readDeclarations table = repeated opensDeclaration (readEntry (fullBy table variableLimit)) (λ seen bytes at. got seen at)
+
+-- a call on a cursor reads records into the front of a table
+pub record Fills {X : Type 0} (reader : Reader (List X)) (before : Cursor) (table : List X) (result : Result ℕ ReadFault) (after : Cursor) (written : List X) : Type 0 where
+  pub value : toldRows result written (after .at) ≡ andThen (reader (before .bytes .now) (before .at)) (λ xs j. got (length xs, put table 0 xs) j)
+  pub same : after .bytes .now ≡ before .bytes .now
+
+abbrev isWord : List ℕ → List ℕ → Answer Span → Bool
+isWord bytes w (got s j) = sameWord (slice bytes s) w
+isWord bytes w (refused f) = false
+
+-- whether the unit does not end here
+abbrev pub goesOn : List ℕ → ℕ → Bool
+goesOn bytes at = not (isWord bytes (codes "END") (readWord bytes at))
+
+abbrev byFound : Scope → ℕ → ℕ → Refusal → Bool → ℕ → Option Verb → Reader (Sentence Span)
+byFound sc room used r full at None bytes i = refuse Missing at
+byFound sc room used r full at (Some v) bytes i = cond full (refuse r at) (byVerb sc room used v bytes i)
+
+-- a statement, where the table may be full
+unfoldable pub readSentence : Scope → ℕ → Refusal → Bool → ℕ → Reader (Sentence Span)
+readSentence sc room r full used bytes at = andThen (readWord bytes at) (λ s j. byFound sc room used r full at (verbOf (slice bytes s)) bytes j)
+
+-- the rows of statements one after another, and their records where these rows stand from a place on
+abbrev pub rowsAll : {T : Type 0} → List (Sentence T) → List UnitRow
+rowsAll [] = []
+rowsAll (s ∷ ss) = rowsOf s ++ rowsAll ss
+
+abbrev pub laidAll : ℕ → List (Sentence Span) → List Statement
+laidAll used [] = []
+laidAll used (s ∷ ss) = laid used s ∷ laidAll (used + length (rowsOf s)) ss
+
+abbrev pub statementLimit : ℕ
+statementLimit = 200
+
+unfoldable pub readFinish : Reader (Unit {0})
+readFinish = readKeyword (codes "END") ▷ readEnd
+
+-- statements up to `END`, with a statement table of this length and a row table with this room
+abbrev pub readStatements : Scope → ℕ → ℕ → ℕ → List (Sentence Span) → Reader (List (Sentence Span))
+readStatements sc room table =
+    repeated goesOn (λ full seen. readSentence sc room (fullBy table statementLimit) full (length (rowsAll seen))) (λ seen. readFinish giving (λ _. seen))
+

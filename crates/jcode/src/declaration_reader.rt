@@ -2,11 +2,12 @@
 
 ghost use mathlib.Core.Path.{_≡_};
 ghost use mathlib.Core.List.{[]};
-ghost use Prim.Native.Nat.{_≤_, min};
+ghost use Prim.Native.Nat.{_<_, min};
 ghost use lib.Dec.{leb};
 ghost use lib.ListN.{length, take};
+ghost use Rattle.std.specs.Vec.{made};
 ghost use Rattle.jcode.specs.Pieces.{Reads};
-ghost use Rattle.jcode.specs.ReadUnits.{domainOf, readHigh, readBounds, readDomain, readColon, readClass, readClosing, readDeclared, opensDeclaration, readFresh, readDeclaration, readEntry, fullBy, readDeclarations};
+ghost use Rattle.jcode.specs.ReadUnits.{domainOf, readHigh, readBounds, readDomain, readColon, readClass, readClosing, readDeclared, opensDeclaration, readFresh, readDeclaration, readEntry, fullBy, readDeclarations, Fills};
 use super::cursor::Cursor;
 use super::refusal::ReadFault;
 use super::refusal::Refusal;
@@ -16,6 +17,15 @@ use super::variable::Domain;
 use super::variable::Variable;
 use terms::word::Entry;
 use terms::word::lookup;
+
+const VARIABLE_LIMIT: usize = 32;
+
+// What refuses one record more than a table of this length can take.
+pub(super) fn full_by(table: usize, limit: usize) -> Refusal
+    ensures { λ r. ⌜ r ≡ fullBy table limit ⌝ }
+{
+    if table < limit { Refusal::Table } else { Refusal::Limit }
+}
 
 // The word of a variable's type.
 #[derive(Clone, Copy)]
@@ -143,5 +153,31 @@ impl Cursor<'_> {
         let name = self.fresh_name(seen)?;
         let domain = self.declared()?;
         Ok(Variable { name, domain })
+    }
+
+    // A declaration, where the table may take one more.
+    fn entry(&mut self, variables: &[Variable], count: usize) -> Result<Variable, ReadFault>
+        ensures value { λ r. ⌜ Reads (readEntry (fullBy (length (now (variables .entry))) 32) (leb (min (length (now (variables .entry))) 32) count) (take count (now (variables .entry)))) (now (self .entry)) r (now (self .exit)) ⌝ }
+        ensures within { λ r. ⌜ made r (λ _. count < min (length (now (variables .entry))) 32) ⌝ }
+    {
+        let fault = self.fault(full_by(variables.len(), VARIABLE_LIMIT));
+        if count >= variables.len().min(VARIABLE_LIMIT) {
+            self.name()?;
+            return Err(fault);
+        }
+        self.declaration(&variables[0..count])
+    }
+
+    // All declarations, into the table; their number is told.
+    pub(super) fn declarations(&mut self, variables: &mut [Variable]) -> Result<usize, ReadFault>
+        ensures { λ r. ⌜ Fills (readDeclarations (length (now (variables .entry))) (min (length (now (variables .entry))) 32) []) (now (self .entry)) (now (variables .entry)) r (now (self .exit)) (now (variables .exit)) ⌝ }
+    {
+        let mut count = 0;
+        while self.opens_declaration() {
+            let variable = self.entry(variables, count)?;
+            variables[count] = variable;
+            count += 1;
+        }
+        Ok(count)
     }
 }
