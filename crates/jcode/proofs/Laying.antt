@@ -33,11 +33,11 @@ length-put xs i (y ∷ ys) = length-put (set xs i y) (i + 1) ys ∙ length-set x
 
 -- what was read, where what became of it is told
 module _ {A B : Type 0} (f : A → B) {b : B} {j : ℕ} where
-  made-of : (o : Answer A) → got b j ≡ andThen o (λ a i. got (f a) i) → (a : A) × (got a j ≡ o) × (b ≡ f a)
+  pub made-of : (o : Answer A) → got b j ≡ andThen o (λ a i. got (f a) i) → (a : A) × (got a j ≡ o) × (b ≡ f a)
   made-of (got a i) e = (a, (let h : j ≡ i = cc in ap (got a) h), cc)
   made-of (refused y) e = let z : _≡_ {A = ℕ} 0 1 = cc in absurd (omega arith)
 
-refused-of : {A B : Type 0} (f : A → B) {y : ReadFault} (o : Answer A) → refused y ≡ andThen o (λ a i. got (f a) i) → refused y ≡ o
+pub refused-of : {A B : Type 0} (f : A → B) {y : ReadFault} (o : Answer A) → refused y ≡ andThen o (λ a i. got (f a) i) → refused y ≡ o
 refused-of f (got a i) e = let z : _≡_ {A = ℕ} 0 1 = cc in absurd (omega arith)
 refused-of f (refused y) e = cc
 

@@ -10,3 +10,4 @@ pub mod Laying
 pub mod Fillings
 pub mod Declarations
 pub mod Rooms
+pub mod Statements

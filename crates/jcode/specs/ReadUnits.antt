@@ -20,6 +20,7 @@ use Rattle.jcode.specs.declared.refusal.Refusal.{Refusal}
 use Rattle.jcode.specs.declared.refusal.Refusal.the-variants.{Missing, Number, Limit, Table, Name}
 use Rattle.jcode.specs.declared.span.Span.{Span}
 use Rattle.jcode.specs.declared.statement.Statement.{Statement}
+use Rattle.jcode.specs.declared.statement_reader.Counts.{Counts}
 use Rattle.jcode.specs.declared.statement_reader.Verb.{Verb}
 use Rattle.jcode.specs.declared.variable.Domain.{Domain}
 use Rattle.jcode.specs.declared.variable.Domain.the-variants as domain
@@ -117,7 +118,7 @@ isWord bytes w (refused f) = false
 abbrev pub goesOn : List ℕ → ℕ → Bool
 goesOn bytes at = not (isWord bytes (codes "END") (readWord bytes at))
 
-abbrev byFound : Scope → ℕ → ℕ → Refusal → Bool → ℕ → Option Verb → Reader (Sentence Span)
+abbrev pub byFound : Scope → ℕ → ℕ → Refusal → Bool → ℕ → Option Verb → Reader (Sentence Span)
 byFound sc room used r full at None bytes i = refuse Missing at
 byFound sc room used r full at (Some v) bytes i = cond full (refuse r at) (byVerb sc room used v bytes i)
 
@@ -144,4 +145,18 @@ readFinish = readKeyword (codes "END") ▷ readEnd
 abbrev pub readStatements : Scope → ℕ → ℕ → ℕ → List (Sentence Span) → Reader (List (Sentence Span))
 readStatements sc room table =
     repeated goesOn (λ full seen. readSentence sc room (fullBy table statementLimit) full (length (rowsAll seen))) (λ seen. readFinish giving (λ _. seen))
+
+abbrev pub both : List Statement → List UnitRow → List Statement × List UnitRow
+both statements rows = (statements, rows)
+
+-- what statements leave: how many there are and how many rows, and both tables
+abbrev pub laidIn : List Statement → List UnitRow → List (Sentence Span) → Counts × (List Statement × List UnitRow)
+laidIn statements rows ss = (record { statements = length ss; rows = length (rowsAll ss) }, both (put statements 0 (laidAll 0 ss)) (put rows 0 (rowsAll ss)))
+
+-- a call on a cursor reads statements into the front of their table, and their rows into the front of the row table
+pub record LaysAll (sc : Scope) (before : Cursor) (statements : List Statement) (rows : List UnitRow) (result : Result Counts ReadFault) (after : Cursor) (laidOut : List Statement) (written : List UnitRow) : Type 0 where
+  pub value :
+    toldRows result (both laidOut written) (after .at)
+    ≡ andThen (readStatements sc (length rows) (length statements) (min (length statements) statementLimit) [] (before .bytes .now) (before .at)) (λ ss j. got (laidIn statements rows ss) j)
+  pub same : after .bytes .now ≡ before .bytes .now
 

@@ -1,6 +1,6 @@
 -- Statements as they are written, each with its terms as lists of rows, and how they stand in the tables.
 use mathlib.Core.List.{List, [], _∷_, _++_}
-use Prim.Native.Nat.{ℕ, _+_, _-_}
+use Prim.Native.Nat.{ℕ, _+_, _-_, _^_, min}
 use lib.Chars.{codes}
 use lib.ListN.{length, replicate}
 use Rattle.std.specs.declared.option.Option.{Option}
@@ -79,3 +79,16 @@ verbs = verb.Break ∷ verb.Require ∷ verb.Proclaim ∷ verb.New ∷ verb.Assi
 -- the statement that a word opens
 abbrev pub verbOf : List ℕ → Option Verb
 verbOf w = firstWith verbWord w verbs
+
+-- how many rows its terms have, as far as that can be told
+abbrev pub rowCount : Statement → ℕ
+rowCount stands.Hang = 0
+rowCount (stands.Break t) = 0
+rowCount (stands.Require e t) = e .rows
+rowCount (stands.Proclaim e) = e .rows
+rowCount (stands.New vs e t) = e .rows
+rowCount (stands.Assign v e f) = min (e .rows + f .rows) (2 ^ 64 - 1)
+rowCount (stands.Split l) = 0
+rowCount (stands.When e l) = e .rows
+rowCount (stands.Branch t l) = 0
+rowCount (stands.Join l) = 0

@@ -1,16 +1,18 @@
 // Reading statements, with their terms into the row table.
 
 ghost use mathlib.Core.Path.{_≡_};
-ghost use Prim.Native.Nat.{_<_, _+_, _^_};
+ghost use Prim.Native.Nat.{_<_, _+_, _^_, min};
 ghost use lib.Dec.{leb};
 ghost use lib.ListN.{length};
 ghost use Rattle.std.specs.Vec.{made};
 ghost use Rattle.jcode.specs.declared.statement_reader.Verb.the-variants as verb;
 ghost use Rattle.jcode.specs.Pieces.{Reads};
 ghost use Rattle.jcode.specs.Scopes.{scopeOf, listedIn};
-ghost use Rattle.jcode.specs.Sentences.{verbOf};
+ghost use Rattle.jcode.specs.Sentences.{verbOf, rowCount};
+ghost use Rattle.jcode.specs.ReadUnits.{fullBy, readSentence, goesOn as goesOnUnit, readFinish, LaysAll};
 ghost use Rattle.jcode.specs.ReadStatements.{readSingle, readAgain, readRepeated, readTarget, goesOn, readUnseen, readMoreListed, readNamesListed, readListed, readTextEnd, readLabelEnd, readGapLabel, readBranch, readExpression, ReadsTerm, byVerb, Lays};
 use super::cursor::Cursor;
+use super::declaration_reader::full_by;
 use super::mention::UnitRow;
 use super::refusal::ReadFault;
 use super::refusal::Refusal;
@@ -22,8 +24,18 @@ use super::statement::Statement;
 use super::statement::Term;
 use terms::word::Entry;
 use terms::word::lookup;
+use terms::word::same_word;
 
 const NESTING: usize = 32;
+
+const STATEMENT_LIMIT: usize = 200;
+
+// How many statements and rows there are.
+#[derive(Clone, Copy)]
+pub(super) struct Counts {
+    pub(super) statements: usize,
+    pub(super) rows: usize,
+}
 
 // The word that a statement begins with.
 #[derive(Clone, Copy)]
@@ -57,6 +69,20 @@ pub(super) fn find_verb(word: &[u8]) -> Option<Verb>
     ensures { λ r. ⌜ r ≡ verbOf (now (word .entry)) ⌝ }
 {
     lookup(word, &VERBS)
+}
+
+// How many rows the terms of a statement have.
+fn row_count(statement: Statement) -> usize
+    ensures { λ r. ⌜ r ≡ rowCount statement ⌝ }
+{
+    match statement {
+        Statement::Require { condition, .. } => condition.rows,
+        Statement::Proclaim { condition } => condition.rows,
+        Statement::New { condition, .. } => condition.rows,
+        Statement::Assign { shadow, value, .. } => shadow.rows.saturating_add(value.rows),
+        Statement::When { condition, .. } => condition.rows,
+        _ => 0,
+    }
 }
 
 impl Cursor<'_> {
@@ -280,5 +306,54 @@ impl Cursor<'_> {
                 Ok(Statement::Hang)
             }
         }
+    }
+
+    // A statement, where a table of this length may take one more.
+    fn sentence(&mut self, scope: Scope, table: usize, count: usize, rows: &mut [UnitRow], used: usize) -> Result<Statement, ReadFault>
+        ensures value { λ r. ⌜ Lays (readSentence (scopeOf (scope .entry)) (length (now (rows .entry))) (fullBy table 200) (leb (min table 200) count) used) used (now (self .entry)) (now (rows .entry)) r (now (self .exit)) (now (rows .exit)) ⌝ }
+        ensures within { λ r. ⌜ made r (λ _. count < min table 200) ⌝ }
+    {
+        let missing = self.fault(Refusal::Missing);
+        let full = self.fault(full_by(table, STATEMENT_LIMIT));
+        let word = self.word()?;
+        let Some(verb) = find_verb(word.of(self.bytes)) else {
+            return Err(missing);
+        };
+        if count >= table.min(STATEMENT_LIMIT) {
+            return Err(full);
+        }
+        self.statement(verb, scope, rows, used)
+    }
+
+    // Whether the unit does not end here.
+    fn has_more(&self) -> bool
+        ensures { λ r. ⌜ r ≡ goesOnUnit (now (now (self .entry) .bytes)) (now (self .entry) .at) ⌝ }
+    {
+        let mut ahead = *self;
+        match ahead.word() {
+            Ok(word) => !same_word(word.of(self.bytes), b"END"),
+            Err(_) => true,
+        }
+    }
+
+    fn finish(&mut self) -> Result<(), ReadFault>
+        ensures { λ r. ⌜ Reads readFinish (now (self .entry)) r (now (self .exit)) ⌝ }
+    {
+        self.keyword(b"END")?;
+        self.end()
+    }
+
+    // All statements up to `END`, into the tables.
+    pub(super) fn statements(&mut self, scope: Scope, statements: &mut [Statement], rows: &mut [UnitRow]) -> Result<Counts, ReadFault>
+        ensures { λ r. ⌜ LaysAll (scopeOf (scope .entry)) (now (self .entry)) (now (statements .entry)) (now (rows .entry)) r (now (self .exit)) (now (statements .exit)) (now (rows .exit)) ⌝ }
+    {
+        let mut counts = Counts { statements: 0, rows: 0 };
+        while self.has_more() {
+            let statement = self.sentence(scope, statements.len(), counts.statements, rows, counts.rows)?;
+            statements[counts.statements] = statement;
+            counts = Counts { statements: counts.statements + 1, rows: counts.rows + row_count(statement) };
+        }
+        self.finish()?;
+        Ok(counts)
     }
 }
