@@ -84,4 +84,3 @@ reads-as q {c = c} e h = record { value = h .value ∙ e (c .bytes .now) (c .at)
 
 pub reads-then : {A B : Type 0} {r : Reader A} {c d e : Cursor} {a : A} {x : Result B ReadFault} (k : A → Reader B) → Reads r c (Ok a) d → Reads (k a) d x e → Reads (λ bytes at. andThen (r bytes at) (λ a i. k a bytes i)) c x e
 reads-then {c = c} k h q = record { value = on (λ a i. k a (c .bytes .now) i) (h .value) (told-in (h .same) q); same = q .same ∙ h .same }
-

@@ -113,11 +113,11 @@ module _ (rows : List UnitRow) (used : ℕ) (e : List UnitRow) where
 pub branch-lays : (sc : Scope) (room used : ℕ) (v : Verb) → v ≡ verb.Branch → {rows : List UnitRow} {c d : Cursor} {x : Result Statement ReadFault} → Reads readBranch c x d → Lays (byVerb sc room used v) used c rows x d rows
 branch-lays sc room used v is {rows} {c} {d} {x} h = record {
   value =
-    kept x
-    ∙ ap (λ a. andThen a (λ st j. got (st, rows) j)) (h .value)
-    ∙ sym (assoc P (λ p i. got (stands.Branch (p .0) (p .1)) i) (λ st j. got (st, rows) j))
-    ∙ assoc P (λ p i. got (Branch (p .0) (p .1)) i) (λ s j. got (laid used s, put rows used (rowsOf s)) j)
-    ∙ ap (λ v. laidOut used rows (byVerb sc room used v (c .bytes .now) (c .at))) (sym is);
+      kept x
+      ∙ ap (λ a. andThen a (λ st j. got (st, rows) j)) (h .value)
+      ∙ sym (assoc P (λ p i. got (stands.Branch (p .0) (p .1)) i) (λ st j. got (st, rows) j))
+      ∙ assoc P (λ p i. got (Branch (p .0) (p .1)) i) (λ s j. got (laid used s, put rows used (rowsOf s)) j)
+      ∙ ap (λ v. laidOut used rows (byVerb sc room used v (c .bytes .now) (c .at))) (sym is);
   same = h .same;
 }
   where
@@ -127,4 +127,3 @@ branch-lays sc room used v is {rows} {c} {d} {x} h = record {
     kept : (x : Result Statement ReadFault) → toldRows x rows (d .at) ≡ andThen (told x (d .at)) (λ st j. got (st, rows) j)
     kept (Ok st) = refl
     kept (Err y) = refl
-

@@ -11,3 +11,4 @@ pub mod Fillings
 pub mod Declarations
 pub mod Rooms
 pub mod Statements
+pub mod Units

@@ -29,9 +29,9 @@ pub pushed-is : (vs : List ℕ) (v : ℕ) → length vs < 8 → pushed (listingO
 pushed-is vs v h =
     let e : 8 - length vs ≡ suc (8 - length (vs ++ v ∷ [])) = omega (arith, length-push vs v) in
     let variables : set (vs ++ replicate (8 - length vs) 0) (length vs) v ≡ (vs ++ v ∷ []) ++ replicate (8 - length (vs ++ v ∷ [])) 0 =
-        ap (λ n. set (vs ++ replicate n 0) (length vs) v) e
-        ∙ set-at vs 0 (replicate (8 - length (vs ++ v ∷ [])) 0) v (length vs) refl
-        ∙ sym (append-assoc vs (v ∷ []) (replicate (8 - length (vs ++ v ∷ [])) 0)) in
+    ap (λ n. set (vs ++ replicate n 0) (length vs) v) e
+    ∙ set-at vs 0 (replicate (8 - length (vs ++ v ∷ [])) 0) v (length vs) refl
+    ∙ sym (append-assoc vs (v ∷ []) (replicate (8 - length (vs ++ v ∷ [])) 0)) in
     cond-true _ _ _ (lt-ltb (length vs) 8 h) ∙ (λ k. record { variables = variables k; count = sym (length-push vs v) k })
 
 pub push-count : (l : Listing) (v : ℕ) → l .count < 8 → pushed l v .count ≡ l .count + 1
@@ -110,7 +110,6 @@ unfolding readListing
 listed-as sc h =
     reads-as (readListed sc)
     (λ bytes at.
-      ap (andThen (readByte 40 bytes at)) (λ k _ i. assoc (readMayGap bytes i) (λ _ j. readNames sc bytes j) (λ vs j. got (listingOf vs) j) k)
-      ∙ assoc (readByte 40 bytes at) (λ _ i. andThen (readMayGap bytes i) (λ _ j. readNames sc bytes j)) (λ vs j. got (listingOf vs) j))
+    ap (andThen (readByte 40 bytes at)) (λ k _ i. assoc (readMayGap bytes i) (λ _ j. readNames sc bytes j) (λ vs j. got (listingOf vs) j) k)
+    ∙ assoc (readByte 40 bytes at) (λ _ i. andThen (readMayGap bytes i) (λ _ j. readNames sc bytes j)) (λ vs j. got (listingOf vs) j))
     h
-

@@ -54,7 +54,7 @@ laid-push used (t ∷ ss) s =
     let e : (used + length (rowsOf t)) + length (rowsAll ss) ≡ used + length (rowsOf t ++ rowsAll ss) = simp length-append (omega arith) in
     ap (λ r. laid used t ∷ r) (laid-push (used + length (rowsOf t)) ss s ∙ ap (λ n. laidAll (used + length (rowsOf t)) ss ++ laid n s ∷ []) e)
 
-length-laid : (used : ℕ) (ss : List (Sentence Span)) → length (laidAll used ss) ≡ length ss
+pub length-laid : (used : ℕ) (ss : List (Sentence Span)) → length (laidAll used ss) ≡ length ss
 length-laid used [] = refl
 length-laid used (s ∷ ss) = ap suc (length-laid (used + length (rowsOf s)) ss)
 
@@ -138,14 +138,14 @@ module _ (sc : Scope) (start : Cursor) (statements : List Statement) (rows : Lis
         within = omega arith;
         fits = in-room l;
         laid-out =
-          (λ k. set (so-far .laid-out k) (n k) ((read .2 ∙ ap (λ u. laid u s) (so-far .used)) k))
-          ∙ sym (put-append statements 0 (laidAll 0 seen) (laid (length (rowsAll seen)) s ∷ []))
-          ∙ ap (put statements 0) (ap (λ u. laidAll 0 seen ++ laid u s ∷ []) z ∙ sym (laid-push 0 seen s));
+            (λ k. set (so-far .laid-out k) (n k) ((read .2 ∙ ap (λ u. laid u s) (so-far .used)) k))
+            ∙ sym (put-append statements 0 (laidAll 0 seen) (laid (length (rowsAll seen)) s ∷ []))
+            ∙ ap (put statements 0) (ap (λ u. laidAll 0 seen ++ laid u s ∷ []) z ∙ sym (laid-push 0 seen s));
         row-table =
-          read .3
-          ∙ (λ k. put (so-far .row-table k) ((so-far .used ∙ z) k) (rowsOf s))
-          ∙ sym (put-append rows 0 (rowsAll seen) (rowsOf s))
-          ∙ ap (put rows 0) (sym (rows-push seen s));
+            read .3
+            ∙ (λ k. put (so-far .row-table k) ((so-far .used ∙ z) k) (rowsOf s))
+            ∙ sym (put-append rows 0 (rowsAll seen) (rowsOf s))
+            ∙ ap (put rows 0) (sym (rows-push seen s));
         goal = step-read goesOn step done limit (counts .statements) seen bytes (place .at) whole (so-far .goal) more h₁ s (d .at) (read .1);
       }
         where

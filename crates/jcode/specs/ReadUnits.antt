@@ -5,21 +5,25 @@ use mathlib.Core.List.{List, [], _∷_, _++_, map}
 use Prim.Native.Nat.{ℕ, _+_, min}
 use lib.Chars.{codes}
 use lib.Dec.{ltb, eqb}
-use lib.IntN.{ℤ}
-use lib.ListN.{length, getD}
+use lib.IntN.{ℤ, pos}
+use lib.ListN.{length, getD, drop, replicate}
 use lib.Signed.{leZ}
 use Rattle.std.specs.declared.option.Option.{Option}
 use Rattle.std.specs.declared.option.Option.the-variants.{Some, None}
 use Rattle.std.specs.declared.result.Result.{Result}
+use Rattle.std.specs.declared.result.Result.the-variants.{Ok, Err}
+use Rattle.terms.specs.declared.row.Row.the-variants.{Constant}
 use Rattle.terms.specs.Words.{sameWord, firstWith}
 use Rattle.jcode.specs.declared.declaration_reader.DomainWord.{DomainWord}
 use Rattle.jcode.specs.declared.declaration_reader.DomainWord.the-variants as word
 use Rattle.jcode.specs.declared.cursor.Cursor.{Cursor}
+use Rattle.jcode.specs.declared.reader.Outline.{Outline}
 use Rattle.jcode.specs.declared.refusal.ReadFault.{ReadFault}
 use Rattle.jcode.specs.declared.refusal.Refusal.{Refusal}
 use Rattle.jcode.specs.declared.refusal.Refusal.the-variants.{Missing, Number, Limit, Table, Name}
 use Rattle.jcode.specs.declared.span.Span.{Span}
 use Rattle.jcode.specs.declared.statement.Statement.{Statement}
+use Rattle.jcode.specs.declared.statement.Statement.the-variants as stands
 use Rattle.jcode.specs.declared.statement_reader.Counts.{Counts}
 use Rattle.jcode.specs.declared.statement_reader.Verb.{Verb}
 use Rattle.jcode.specs.declared.variable.Domain.{Domain}
@@ -156,7 +160,91 @@ laidIn statements rows ss = (record { statements = length ss; rows = length (row
 -- a call on a cursor reads statements into the front of their table, and their rows into the front of the row table
 pub record LaysAll (sc : Scope) (before : Cursor) (statements : List Statement) (rows : List UnitRow) (result : Result Counts ReadFault) (after : Cursor) (laidOut : List Statement) (written : List UnitRow) : Type 0 where
   pub value :
-    toldRows result (both laidOut written) (after .at)
-    ≡ andThen (readStatements sc (length rows) (length statements) (min (length statements) statementLimit) [] (before .bytes .now) (before .at)) (λ ss j. got (laidIn statements rows ss) j)
+      toldRows result (both laidOut written) (after .at)
+      ≡ andThen (readStatements sc (length rows) (length statements) (min (length statements) statementLimit) [] (before .bytes .now) (before .at)) (λ ss j. got (laidIn statements rows ss) j)
   pub same : after .bytes .now ≡ before .bytes .now
 
+-- a unit as it is read, with names and texts where they stand in the bytes
+pub record Located : Type 0 where
+  pub name : Span
+  pub variables : List Variable
+  pub sentences : List (Sentence Span)
+
+-- the three tables
+pub record Tables : Type 0 where
+  pub variables : List Variable
+  pub statements : List Statement
+  pub rows : List UnitRow
+
+abbrev pub tables : List Variable → List Statement → List UnitRow → Tables
+tables vs ss rs = record { variables = vs; statements = ss; rows = rs }
+
+unfoldable pub readHeading : Reader Span
+readHeading = readKeyword (codes "BEGIN") ▷ (readGap ▷ (readName ◁ readEnd))
+
+abbrev pub scopeIn : List ℕ → List Variable → Scope
+scopeIn bytes vs = record { names = map (nameIn bytes) vs; listed = [] }
+
+-- the statements of a unit with these variables
+abbrev pub readBody : Tables → List Variable → Reader (List (Sentence Span))
+readBody t vs bytes at =
+    readStatements (scopeIn bytes vs) (length (t .rows)) (length (t .statements)) (min (length (t .statements)) statementLimit) [] bytes at
+
+-- what follows the heading
+abbrev pub readRest : Tables → Reader (List Variable × List (Sentence Span))
+readRest t = readDeclarations (length (t .variables)) (min (length (t .variables)) variableLimit) [] ⊗ readBody t
+
+abbrev pub located : Span × (List Variable × List (Sentence Span)) → Located
+located p = record { name = p .0; variables = p .1 .0; sentences = p .1 .1 }
+
+-- a unit, for tables of these lengths
+abbrev pub readUnit : Tables → Reader Located
+readUnit t = (readHeading ⊗ λ _. readRest t) giving located
+
+-- a table with these records at its front and its old rest
+abbrev pub over : {X : Type 0} → List X → List X → List X
+over xs table = xs ++ drop (length xs) table
+
+-- the tables with the unit at their front
+abbrev pub written : Located → Tables → Tables
+written u t = record {
+  variables = over (u .variables) (t .variables);
+  statements = over (laidAll 0 (u .sentences)) (t .statements);
+  rows = over (rowsAll (u .sentences)) (t .rows);
+}
+
+-- the tables with every record blank, which is the first case of its type with fields 0
+abbrev pub blanked : Tables → Tables
+blanked t = record {
+  variables = replicate (length (t .variables)) (record { name = record { start = 0; length = 0 }; domain = domain.Integer });
+  statements = replicate (length (t .statements)) stands.Hang;
+  rows = replicate (length (t .rows)) (Constant (pos 0));
+}
+
+-- what is told of a unit that was read, up to the byte after it
+abbrev pub outline : Located → ℕ → Outline
+outline u next = record {
+  name = u .name;
+  variables = length (u .variables);
+  statements = length (u .sentences);
+  rows = length (rowsAll (u .sentences));
+  next = next;
+}
+
+-- a reading's answer, and the tables that it leaves
+abbrev pub answered : Answer Located → Result Outline ReadFault
+answered (got u j) = Ok (outline u j)
+answered (refused f) = Err f
+
+abbrev pub leftBy : Tables → Answer Located → Tables
+leftBy t (got u j) = written u t
+leftBy t (refused f) = blanked t
+
+-- what is told of an attempt: the tables only where it succeeds
+abbrev pub attempted : Result Outline ReadFault → Tables → Result (Outline × Tables) ReadFault
+attempted (Ok o) t = Ok (o, t)
+attempted (Err f) t = Err f
+
+abbrev pub achieved : Tables → Answer Located → Result (Outline × Tables) ReadFault
+achieved t (got u j) = Ok (outline u j, written u t)
+achieved t (refused f) = Err f

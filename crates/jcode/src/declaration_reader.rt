@@ -2,7 +2,7 @@
 
 ghost use mathlib.Core.Path.{_≡_};
 ghost use mathlib.Core.List.{[]};
-ghost use Prim.Native.Nat.{_<_, min};
+ghost use Prim.Native.Nat.{_<_, _≤_, min};
 ghost use lib.Dec.{leb};
 ghost use lib.ListN.{length, take};
 ghost use Rattle.std.specs.Vec.{made};
@@ -24,7 +24,11 @@ const VARIABLE_LIMIT: usize = 32;
 pub(super) fn full_by(table: usize, limit: usize) -> Refusal
     ensures { λ r. ⌜ r ≡ fullBy table limit ⌝ }
 {
-    if table < limit { Refusal::Table } else { Refusal::Limit }
+    if table < limit {
+        Refusal::Table
+    } else {
+        Refusal::Limit
+    }
 }
 
 // The word of a variable's type.
@@ -170,7 +174,8 @@ impl Cursor<'_> {
 
     // All declarations, into the table; their number is told.
     pub(super) fn declarations(&mut self, variables: &mut [Variable]) -> Result<usize, ReadFault>
-        ensures { λ r. ⌜ Fills (readDeclarations (length (now (variables .entry))) (min (length (now (variables .entry))) 32) []) (now (self .entry)) (now (variables .entry)) r (now (self .exit)) (now (variables .exit)) ⌝ }
+        ensures value { λ r. ⌜ Fills (readDeclarations (length (now (variables .entry))) (min (length (now (variables .entry))) 32) []) (now (self .entry)) (now (variables .entry)) r (now (self .exit)) (now (variables .exit)) ⌝ }
+        ensures within { λ r. ⌜ made r (λ n. n ≤ length (now (variables .entry))) ⌝ }
     {
         let mut count = 0;
         while self.opens_declaration() {

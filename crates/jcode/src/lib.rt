@@ -4,6 +4,7 @@ mod class;
 mod cursor;
 mod declaration_reader;
 pub mod mention;
+pub mod reader;
 pub mod refusal;
 mod scope;
 pub mod span;

@@ -39,7 +39,10 @@ pub(super) fn contains(variables: &[usize], variable: usize) -> bool
 
 impl Listing {
     // No variable is listed.
-    pub(super) const EMPTY: Listing = Listing { variables: [0; 8], count: 0 };
+    pub(super) const EMPTY: Listing = Listing {
+        variables: [0; 8],
+        count: 0,
+    };
 
     // One variable more; a full list stays as it is.
     pub(super) fn push(&mut self, variable: usize)

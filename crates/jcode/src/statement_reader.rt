@@ -1,7 +1,7 @@
 // Reading statements, with their terms into the row table.
 
 ghost use mathlib.Core.Path.{_≡_};
-ghost use Prim.Native.Nat.{_<_, _+_, _^_, min};
+ghost use Prim.Native.Nat.{_<_, _≤_, _+_, _^_, min};
 ghost use lib.Dec.{leb};
 ghost use lib.ListN.{length};
 ghost use Rattle.std.specs.Vec.{made};
@@ -209,15 +209,28 @@ impl Cursor<'_> {
     }
 
     // An expression, into the table after the rows that are used.
-    fn expression(&mut self, scope: Scope, rows: &mut [UnitRow], used: usize) -> Result<Term, ReadFault>
+    fn expression(
+        &mut self,
+        scope: Scope,
+        rows: &mut [UnitRow],
+        used: usize,
+    ) -> Result<Term, ReadFault>
         ensures value { λ r. ⌜ ReadsTerm (readExpression (scopeOf (scope .entry)) (length (now (rows .entry))) used) used (now (self .entry)) (now (rows .entry)) r (now (self .exit)) (now (rows .exit)) ⌝ }
         ensures within { λ r. ⌜ made r (λ t. used + t .rows < 2 ^ 64) ⌝ }
     {
         let next = self.term(scope, rows, used, NESTING)?;
-        Ok(Term { first: used, rows: next - used })
+        Ok(Term {
+            first: used,
+            rows: next - used,
+        })
     }
 
-    fn require(&mut self, scope: Scope, rows: &mut [UnitRow], used: usize) -> Result<Statement, ReadFault>
+    fn require(
+        &mut self,
+        scope: Scope,
+        rows: &mut [UnitRow],
+        used: usize,
+    ) -> Result<Statement, ReadFault>
         ensures { λ r. ⌜ Lays (byVerb (scopeOf (scope .entry)) (length (now (rows .entry))) used verb.Require) used (now (self .entry)) (now (rows .entry)) r (now (self .exit)) (now (rows .exit)) ⌝ }
     {
         self.gap()?;
@@ -226,7 +239,12 @@ impl Cursor<'_> {
         Ok(Statement::Require { condition, text })
     }
 
-    fn proclaim(&mut self, scope: Scope, rows: &mut [UnitRow], used: usize) -> Result<Statement, ReadFault>
+    fn proclaim(
+        &mut self,
+        scope: Scope,
+        rows: &mut [UnitRow],
+        used: usize,
+    ) -> Result<Statement, ReadFault>
         ensures { λ r. ⌜ Lays (byVerb (scopeOf (scope .entry)) (length (now (rows .entry))) used verb.Proclaim) used (now (self .entry)) (now (rows .entry)) r (now (self .exit)) (now (rows .exit)) ⌝ }
     {
         self.gap()?;
@@ -235,19 +253,37 @@ impl Cursor<'_> {
         Ok(Statement::Proclaim { condition })
     }
 
-    fn new_values(&mut self, scope: Scope, rows: &mut [UnitRow], used: usize) -> Result<Statement, ReadFault>
+    fn new_values(
+        &mut self,
+        scope: Scope,
+        rows: &mut [UnitRow],
+        used: usize,
+    ) -> Result<Statement, ReadFault>
         ensures { λ r. ⌜ Lays (byVerb (scopeOf (scope .entry)) (length (now (rows .entry))) used verb.New) used (now (self .entry)) (now (rows .entry)) r (now (self .exit)) (now (rows .exit)) ⌝ }
     {
         self.gap()?;
         let listing = self.listing(scope)?;
         self.may_gap();
-        let within = Scope { bytes: scope.bytes, variables: scope.variables, listing };
+        let within = Scope {
+            bytes: scope.bytes,
+            variables: scope.variables,
+            listing,
+        };
         let condition = self.expression(within, rows, used)?;
         let text = self.text_end()?;
-        Ok(Statement::New { listing, condition, text })
+        Ok(Statement::New {
+            listing,
+            condition,
+            text,
+        })
     }
 
-    fn assign(&mut self, scope: Scope, rows: &mut [UnitRow], used: usize) -> Result<Statement, ReadFault>
+    fn assign(
+        &mut self,
+        scope: Scope,
+        rows: &mut [UnitRow],
+        used: usize,
+    ) -> Result<Statement, ReadFault>
         ensures { λ r. ⌜ Lays (byVerb (scopeOf (scope .entry)) (length (now (rows .entry))) used verb.Assign) used (now (self .entry)) (now (rows .entry)) r (now (self .exit)) (now (rows .exit)) ⌝ }
     {
         self.gap()?;
@@ -257,10 +293,19 @@ impl Cursor<'_> {
         self.may_gap();
         let value = self.expression(scope, rows, used + shadow.rows)?;
         self.end()?;
-        Ok(Statement::Assign { variable, shadow, value })
+        Ok(Statement::Assign {
+            variable,
+            shadow,
+            value,
+        })
     }
 
-    fn when(&mut self, scope: Scope, rows: &mut [UnitRow], used: usize) -> Result<Statement, ReadFault>
+    fn when(
+        &mut self,
+        scope: Scope,
+        rows: &mut [UnitRow],
+        used: usize,
+    ) -> Result<Statement, ReadFault>
         ensures { λ r. ⌜ Lays (byVerb (scopeOf (scope .entry)) (length (now (rows .entry))) used verb.When) used (now (self .entry)) (now (rows .entry)) r (now (self .exit)) (now (rows .exit)) ⌝ }
     {
         self.gap()?;
@@ -288,19 +333,31 @@ impl Cursor<'_> {
     }
 
     // What follows a statement's word; the rows of its terms go into the table after those that are used.
-    pub(super) fn statement(&mut self, verb: Verb, scope: Scope, rows: &mut [UnitRow], used: usize) -> Result<Statement, ReadFault>
+    pub(super) fn statement(
+        &mut self,
+        verb: Verb,
+        scope: Scope,
+        rows: &mut [UnitRow],
+        used: usize,
+    ) -> Result<Statement, ReadFault>
         ensures { λ r. ⌜ Lays (byVerb (scopeOf (scope .entry)) (length (now (rows .entry))) used verb) used (now (self .entry)) (now (rows .entry)) r (now (self .exit)) (now (rows .exit)) ⌝ }
     {
         match verb {
-            Verb::Break => Ok(Statement::Break { text: self.text_end()? }),
+            Verb::Break => Ok(Statement::Break {
+                text: self.text_end()?,
+            }),
             Verb::Require => self.require(scope, rows, used),
             Verb::Proclaim => self.proclaim(scope, rows, used),
             Verb::New => self.new_values(scope, rows, used),
             Verb::Assign => self.assign(scope, rows, used),
-            Verb::Split => Ok(Statement::Split { label: self.label_after_gap()? }),
+            Verb::Split => Ok(Statement::Split {
+                label: self.label_after_gap()?,
+            }),
             Verb::When => self.when(scope, rows, used),
             Verb::Branch => self.branch(),
-            Verb::Join => Ok(Statement::Join { label: self.label_after_gap()? }),
+            Verb::Join => Ok(Statement::Join {
+                label: self.label_after_gap()?,
+            }),
             Verb::Hang => {
                 self.end()?;
                 Ok(Statement::Hang)
@@ -309,7 +366,14 @@ impl Cursor<'_> {
     }
 
     // A statement, where a table of this length may take one more.
-    fn sentence(&mut self, scope: Scope, table: usize, count: usize, rows: &mut [UnitRow], used: usize) -> Result<Statement, ReadFault>
+    fn sentence(
+        &mut self,
+        scope: Scope,
+        table: usize,
+        count: usize,
+        rows: &mut [UnitRow],
+        used: usize,
+    ) -> Result<Statement, ReadFault>
         ensures value { λ r. ⌜ Lays (readSentence (scopeOf (scope .entry)) (length (now (rows .entry))) (fullBy table 200) (leb (min table 200) count) used) used (now (self .entry)) (now (rows .entry)) r (now (self .exit)) (now (rows .exit)) ⌝ }
         ensures within { λ r. ⌜ made r (λ _. count < min table 200) ⌝ }
     {
@@ -344,14 +408,32 @@ impl Cursor<'_> {
     }
 
     // All statements up to `END`, into the tables.
-    pub(super) fn statements(&mut self, scope: Scope, statements: &mut [Statement], rows: &mut [UnitRow]) -> Result<Counts, ReadFault>
-        ensures { λ r. ⌜ LaysAll (scopeOf (scope .entry)) (now (self .entry)) (now (statements .entry)) (now (rows .entry)) r (now (self .exit)) (now (statements .exit)) (now (rows .exit)) ⌝ }
+    pub(super) fn statements(
+        &mut self,
+        scope: Scope,
+        statements: &mut [Statement],
+        rows: &mut [UnitRow],
+    ) -> Result<Counts, ReadFault>
+        ensures value { λ r. ⌜ LaysAll (scopeOf (scope .entry)) (now (self .entry)) (now (statements .entry)) (now (rows .entry)) r (now (self .exit)) (now (statements .exit)) (now (rows .exit)) ⌝ }
+        ensures within { λ r. ⌜ made r (λ n. (n .statements ≤ length (now (statements .entry))) × (n .rows ≤ length (now (rows .entry)))) ⌝ }
     {
-        let mut counts = Counts { statements: 0, rows: 0 };
+        let mut counts = Counts {
+            statements: 0,
+            rows: 0,
+        };
         while self.has_more() {
-            let statement = self.sentence(scope, statements.len(), counts.statements, rows, counts.rows)?;
+            let statement = self.sentence(
+                scope,
+                statements.len(),
+                counts.statements,
+                rows,
+                counts.rows,
+            )?;
             statements[counts.statements] = statement;
-            counts = Counts { statements: counts.statements + 1, rows: counts.rows + row_count(statement) };
+            counts = Counts {
+                statements: counts.statements + 1,
+                rows: counts.rows + row_count(statement),
+            };
         }
         self.finish()?;
         Ok(counts)

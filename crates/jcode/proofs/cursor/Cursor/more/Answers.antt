@@ -43,13 +43,12 @@ loop-self-again c =
     let n : goesOn (c .args .self .now .bytes .now) (c .loop-self .self .at) ≡ true = ap (λ b. goesOn b (c .loop-self .self .at)) (sym (c .loop-self .inv .0)) ∙ sym (c .loop-self-test .ensures tt) in
     let h = room-left (scopeOf (c .args .scope)) (c .loop-self .listing) _ _ _ (c .in-Continue-variable .ensures tt) in
     let k = push-count (c .loop-self .listing) (c .in-Continue-variable .variable) h in
-    let e = c .push-in-loop-self .ensures in
-    (
+    let e = c .push-in-loop-self .ensures in (
       search needs,
       e ∙ push-proper (c .loop-self .listing) (c .in-Continue-variable .variable) (c .loop-self .inv .1) h ∙ ap (λ l. listingOf (listedIn l)) (sym e),
       omega (arith, ap (λ l. l .count) e),
       ap (λ l. readMore (scopeOf (c .args .scope)) (8 - l .count) (listedIn l) (c .args .self .now .bytes .now) (c .unseen .last .self .at)) e
-      ∙ unseen-read (scopeOf (c .args .scope)) (c .loop-self .listing) (c .args .self .now .bytes .now) _ _ (c .loop-self .inv .0) (c .loop-self .inv .3) n _ _ (c .in-Continue-gap .ensures tt) (c .in-Continue-variable .variable) (c .loop-self .inv .1) h (c .in-Continue-variable .ensures tt),
+          ∙ unseen-read (scopeOf (c .args .scope)) (c .loop-self .listing) (c .args .self .now .bytes .now) _ _ (c .loop-self .inv .0) (c .loop-self .inv .3) n _ _ (c .in-Continue-gap .ensures tt) (c .in-Continue-variable .variable) (c .loop-self .inv .1) h (c .in-Continue-variable .ensures tt),
     )
 
 pub returns-in-Break-close : need.returns-in-Break-close

@@ -15,8 +15,11 @@ pub returns-in-Break-statement : need.returns-in-Break-statement
 returns-in-Break-statement c =
     let more : goesOn (c .args .self .now .bytes .now) (c .loop-self .self .at) ≡ true = ap (λ b. goesOn b (c .loop-self .self .at)) (sym (c .loop-self .inv .same)) ∙ sym (c .loop-self-test .ensures tt) in
     record {
-      value = stopped-rows (c .from-residual .result) _ _ (c .from-residual .ensures .1) ∙ statement-refused (scopeOf (c .args .scope)) (c .args .self .now) (c .args .statements .now) (c .args .rows .now) (c .loop-self .self) (c .loop-self .statements) (c .loop-self .rows) (c .loop-self .counts) (c .loop-self .inv) (c .loop-self .kept .statements) (c .loop-self .kept .rows) more _ _ (c .in-Break-statement .ensures tt .value);
-      same = c .in-Break-statement .ensures tt .value .same ∙ c .loop-self .inv .same;
+      within = search needs;
+      value = record {
+        value = stopped-rows (c .from-residual .result) _ _ (c .from-residual .ensures .1) ∙ statement-refused (scopeOf (c .args .scope)) (c .args .self .now) (c .args .statements .now) (c .args .rows .now) (c .loop-self .self) (c .loop-self .statements) (c .loop-self .rows) (c .loop-self .counts) (c .loop-self .inv) (c .loop-self .kept .statements) (c .loop-self .kept .rows) more _ _ (c .in-Break-statement .ensures tt .value);
+        same = c .in-Break-statement .ensures tt .value .same ∙ c .loop-self .inv .same;
+      };
     }
 
 pub add-counts-in-loop-self : need.add-counts-in-loop-self
@@ -35,14 +38,20 @@ pub returns-in-Break-finish : need.returns-in-Break-finish
 returns-in-Break-finish c =
     let more : goesOn (c .args .self .now .bytes .now) (c .loop-self .self .at) ≡ false = ap (λ b. goesOn b (c .loop-self .self .at)) (sym (c .loop-self .inv .same)) ∙ sym (c .loop-self-test .ensures tt) in
     record {
-      value = stopped-rows (c .from-residual-in-Break-finish .result) _ _ (c .from-residual-in-Break-finish .ensures .1) ∙ unfinished (scopeOf (c .args .scope)) (c .args .self .now) (c .args .statements .now) (c .args .rows .now) (c .loop-self .self) (c .loop-self .statements) (c .loop-self .rows) (c .loop-self .counts) (c .loop-self .inv) (c .loop-self .kept .statements) (c .loop-self .kept .rows) more _ (c .in-Break-finish .ensures tt);
-      same = c .in-Break-finish .ensures tt .same ∙ c .loop-self .inv .same;
+      within = search needs;
+      value = record {
+        value = stopped-rows (c .from-residual-in-Break-finish .result) _ _ (c .from-residual-in-Break-finish .ensures .1) ∙ unfinished (scopeOf (c .args .scope)) (c .args .self .now) (c .args .statements .now) (c .args .rows .now) (c .loop-self .self) (c .loop-self .statements) (c .loop-self .rows) (c .loop-self .counts) (c .loop-self .inv) (c .loop-self .kept .statements) (c .loop-self .kept .rows) more _ (c .in-Break-finish .ensures tt);
+        same = c .in-Break-finish .ensures tt .same ∙ c .loop-self .inv .same;
+      };
     }
 
 pub returns : need.returns
 returns c =
     let more : goesOn (c .args .self .now .bytes .now) (c .loop-self .self .at) ≡ false = ap (λ b. goesOn b (c .loop-self .self .at)) (sym (c .loop-self .inv .same)) ∙ sym (c .loop-self-test .ensures tt) in
     record {
-      value = finished (scopeOf (c .args .scope)) (c .args .self .now) (c .args .statements .now) (c .args .rows .now) (c .loop-self .self) (c .loop-self .statements) (c .loop-self .rows) (c .loop-self .counts) (c .loop-self .inv) (c .loop-self .kept .statements) (c .loop-self .kept .rows) more _ (c .in-Continue-finish .ensures tt);
-      same = c .in-Continue-finish .ensures tt .same ∙ c .loop-self .inv .same;
+      within = (omega (arith, c .loop-self .inv .within), c .loop-self .inv .fits);
+      value = record {
+        value = finished (scopeOf (c .args .scope)) (c .args .self .now) (c .args .statements .now) (c .args .rows .now) (c .loop-self .self) (c .loop-self .statements) (c .loop-self .rows) (c .loop-self .counts) (c .loop-self .inv) (c .loop-self .kept .statements) (c .loop-self .kept .rows) more _ (c .in-Continue-finish .ensures tt);
+        same = c .in-Continue-finish .ensures tt .same ∙ c .loop-self .inv .same;
+      };
     }
