@@ -7,3 +7,4 @@ pub mod ReadTerms
 pub mod Sentences
 pub mod ReadStatements
 pub mod ReadUnits
+pub mod Lines

@@ -3,6 +3,7 @@
 mod class;
 mod cursor;
 mod declaration_reader;
+pub mod line;
 pub mod mention;
 pub mod reader;
 pub mod refusal;
