@@ -13,8 +13,17 @@ use std::alloc::Global;
 pub fn line(heap: Global, bytes: &[u8], outline: Outline) -> Result<Vec<u8>, AllocError>
     ensures { λ r. ⌜ made r (λ line. vec-items line ≡ shown (slice (now (bytes .entry)) (outline .name)) (outline .variables) (outline .statements) (outline .rows)) ⌝ }
 {
-    let Outline { name, variables, statements, rows, next: _ } = outline;
-    let counts = format!(heap, " variables {variables} statements {statements} rows {rows}\n")?;
+    let Outline {
+        name,
+        variables,
+        statements,
+        rows,
+        next: _,
+    } = outline;
+    let counts = format!(
+        heap,
+        " variables {variables} statements {statements} rows {rows}\n"
+    )?;
     let mut line = Vec::new(heap);
     line.extend_from_slice(name.of(bytes))?;
     line.extend_from_slice(counts.as_bytes())?;
