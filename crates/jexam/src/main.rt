@@ -1,8 +1,10 @@
 // jexam: reads units from standard input and writes a line for each.
 
+ghost use mathlib.Core.Path.{_≡_};
 ghost use Prim.Native.Nat.{_≤_};
 ghost use lib.ListN.{length};
 ghost use Rattle.std.specs.Vec.{made};
+ghost use Rattle.jexam.specs.declared.Fault.the-variants.{Refused};
 use jcode::line::line;
 use jcode::mention::UnitRow;
 use jcode::reader::read;
@@ -34,6 +36,8 @@ enum Fault {
 }
 
 impl From<ReadFault> for Fault as FaultFromRead {
+    ghost converts = { λ fault r. r ≡ Refused fault };
+
     fn from(value: ReadFault) -> Fault {
         Fault::Refused(value)
     }

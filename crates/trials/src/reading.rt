@@ -421,6 +421,29 @@ fn repeated(
     Ok(bytes)
 }
 
+// A unit with so many variables.
+fn declaring(heap: Global, count: usize) -> Result<Vec<u8>, AllocError> {
+    let mut bytes = Vec::new(heap);
+    bytes.extend_from_slice(b"BEGIN U\n")?;
+    for i in 0..count {
+        let declaration = format!(heap, "v{i} : (variable (integer))\n")?;
+        bytes.extend_from_slice(declaration.as_bytes())?;
+    }
+    bytes.extend_from_slice(b"END\n")?;
+    Ok(bytes)
+}
+
+#[test]
+fn thirty_two_variables(rt: LibcRuntime) -> Result<(), Fail> {
+    let most = declaring(rt.alloc(), 32)?;
+    reads(&most, AMPLE, [32, 0, 0])?;
+    reads(&most, [32, 0, 0], [32, 0, 0])?;
+    refuses(&most, 0, [31, 0, 0], 4, 835)?;
+    let more = declaring(rt.alloc(), 33)?;
+    refuses(&more, 0, AMPLE, 3, 862)?;
+    refuses(&more, 0, [32, 0, 0], 3, 862)
+}
+
 #[test]
 fn two_hundred_statements(rt: LibcRuntime) -> Result<(), Fail> {
     let most = repeated(rt.alloc(), b"BEGIN U\n", b"HANG\n", 200, b"END\n")?;

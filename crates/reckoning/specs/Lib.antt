@@ -1,0 +1,9 @@
+pub mod Kinds
+pub mod Decisions
+pub mod Certain
+pub mod Reckonings
+pub mod Points
+pub mod Ranges
+pub mod Hulls
+pub mod Evaluation
+pub mod Exactness
