@@ -1,4 +1,5 @@
 // Checking: the rules that a unit keeps before conditions are written for it, and the checked unit.
+#![tactic(auto)]
 
 pub mod fault;
 pub mod kinding;

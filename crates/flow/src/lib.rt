@@ -1,4 +1,5 @@
 // Flow: where control goes in a unit, the rules that hang on nothing else, and its paths.
+#![tactic(auto)]
 
 mod circle;
 mod counts;

@@ -1,4 +1,5 @@
 // J-code: a unit as bytes and as tables, and the reading that leads from one to the other.
+#![tactic(auto)]
 
 mod class;
 mod cursor;

@@ -1,4 +1,5 @@
 // jexam: reads units from standard input and writes a line for each.
+#![tactic(auto)]
 
 ghost use Rattle.std.specs.Prelude.{◌≡◌, ◌≤◌, length, IfOk};
 ghost use Rattle.jexam.specs.declared.Fault.TheVariants.{Refused};

@@ -1,4 +1,5 @@
 // Reckonings: computing with terms exactly or by bounds, each an abstract domain over whole numbers.
+#![tactic(auto)]
 
 pub mod certain;
 pub mod decision;

@@ -1,4 +1,5 @@
 // Trials of the reckonings, in a crate of their own since a crate with tests is proved twice.
+#![tactic(auto)]
 
 #[cfg(test)]
 mod marks;

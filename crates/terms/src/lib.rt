@@ -1,4 +1,5 @@
 // Terms: kinds, the operator table, what each operator computes, and rows in Polish notation.
+#![tactic(auto)]
 
 pub mod fold;
 pub mod kind;
