@@ -62,11 +62,11 @@ fn push_row<M: Copy, X: Copy, I: Interpretation<M, X>>(
 ) -> usize
     requires room { 0 < top }
     requires inside { top ≤ length stack.old }
-    requires absent { absent ≡ (algebra interpretation.now).absent }
+    requires absent { absent ≡ (I.algebra interpretation.now).absent }
     ensures low { top ≤ result + 1 }
     ensures high { result < length stack.old }
     ensures kept { take (top - 1) stack.new ≡ take (top - 1) stack.old }
-    ensures stack { drop result stack.new ≡ onto (algebra interpretation.now) row (drop top stack.old) }
+    ensures stack { drop result stack.new ≡ onto (I.algebra interpretation.now) row (drop top stack.old) }
 {
     match row {
         Row::Constant(number) => {
@@ -96,7 +96,7 @@ pub fn fold_row<M: Copy, X: Copy, I: Interpretation<M, X>>(
     stack: &mut [X],
     top: usize,
 ) -> Option<usize>
-    ensures { FoldedRow (algebra interpretation.now) row stack.old top result stack.new }
+    ensures { FoldedRow (I.algebra interpretation.now) row stack.old top result stack.new }
 {
     if top == 0 || top > stack.len() {
         return None;
@@ -111,7 +111,7 @@ pub fn fold<M: Copy, X: Copy, I: Interpretation<M, X>>(
     rows: &[Row<M>],
     stack: &mut [X],
 ) -> Option<usize>
-    ensures { Folded (algebra interpretation.now) rows.now stack.old result stack.new }
+    ensures { Folded (I.algebra interpretation.now) rows.now stack.old result stack.new }
 {
     if stack.len() < rows.len() {
         return None;
@@ -130,7 +130,7 @@ pub fn outcome<M: Copy, X: Copy, I: Interpretation<M, X>>(
     rows: &[Row<M>],
     stack: &mut [X],
 ) -> X
-    ensures value { result ≡ outcome_in (algebra interpretation.now) rows.now (length stack.old) }
+    ensures value { result ≡ outcome_in (I.algebra interpretation.now) rows.now (length stack.old) }
     ensures others { take (length stack.old - length rows.now) stack.new ≡ take (length stack.old - length rows.now) stack.old }
     ensures unread { length stack.old < length rows.now → stack.new ≡ stack.old }
 {

@@ -5,13 +5,13 @@ use Rattle.checking.specs.Types.{domains_in}
 use Rattle.checking.proofs.Searching.{tested, passed_more, passed_all}
 use Rattle.checking.proofs.kinds.wrong_kind.Goals as goal
 
-pub returns-then-not-kinds-kept : goal.returns-then-not-kinds-kept
-returns-then-not-kinds-kept c =
-    (tested (kinds_kept (domains_in c.args.types.variables.now)) (sentence_in c.args.rows.now) c.args.statements.now _ c.loop-i.i false c.loop-i-test.true c.if-not-kinds-kept.ensures, c.loop-i.invariant.1)
+pub returns-then-not-kinds_kept : goal.returns-then-not-kinds_kept
+returns-then-not-kinds_kept c =
+    (tested (kinds_kept (domains_in c.args.types.variables.now)) (sentence_in c.args.rows.now) c.args.statements.now _ c.loop-i.i false c.loop-i-test.true c.if-not-kinds_kept.ensures, c.loop-i.invariant.1)
 
 pub loop-i-preserved : goal.loop-i-preserved
 loop-i-preserved c =
-    (omega (arith, c.loop-i.invariant.0, c.kinds-kept.auto.stack), passed_more (kinds_kept (domains_in c.args.types.variables.now)) (sentence_in c.args.rows.now) c.args.statements.now _ c.loop-i.i c.loop-i-test.true c.if-not-kinds-kept.ensures c.loop-i.invariant.1)
+    (omega (arith, c.loop-i.invariant.0, c.kinds_kept.auto.stack), passed_more (kinds_kept (domains_in c.args.types.variables.now)) (sentence_in c.args.rows.now) c.args.statements.now _ c.loop-i.i c.loop-i-test.true c.if-not-kinds_kept.ensures c.loop-i.invariant.1)
 
 pub returns : goal.returns
 returns c =

@@ -8,5 +8,5 @@ pub returns-then-listing-le8 : goal.returns-then-listing-le8
 returns-then-listing-le8 c =
     let l = c.args.listing in
     let eight : length l.variables ≡ 8 = search rules in
-    let zeros : c.all-pass.result ≡ all_of (λ v. eqb v 0) (take (length l.variables - l.count) (drop l.count l.variables)) = c.all-pass.ensures in
+    let zeros : c.all_pass.result ≡ all_of (λ v. eqb v 0) (take (length l.variables - l.count) (drop l.count l.variables)) = c.all_pass.ensures in
     zeros ∙ ap₂ ◌&&◌ (sym (le-leb l.count 8 c.if-listing-le8.true)) (ap₂ ◌&&◌ (sym (eq-eqb (length l.variables) 8 eight)) (ap (all_of (λ v. eqb v 0)) (take_rest l.variables l.count)))

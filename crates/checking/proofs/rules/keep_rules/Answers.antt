@@ -14,34 +14,34 @@ use Rattle.checking.proofs.Ruling.{no_tables, clear_tables, passes, fails, exits
 use Rattle.checking.proofs.Telling.{unit_steps, least_kind, least_range, no_circle, too_many_paths}
 use Rattle.checking.proofs.rules.keep_rules.Goals as goal
 
-pub returns-then-not-is-readable : goal.returns-then-not-is-readable
-returns-then-not-is-readable c =
+pub returns-then-not-is_readable : goal.returns-then-not-is_readable
+returns-then-not-is_readable c =
     let t = tables c.args.variables.now c.args.statements.now c.args.rows.now in
-    record { checks = no_tables c.args.bytes.now c.args.name t (λ r. both_ways _ (sym c.if-not-is-readable.ensures) (readable_whole c.args.bytes.now c.args.name t r)); paths = tt }
+    record { checks = no_tables c.args.bytes.now c.args.name t (λ r. both_ways _ (sym c.if-not-is_readable.ensures) (readable_whole c.args.bytes.now c.args.name t r)); paths = tt }
 
-pub flow-of-flow-requires : goal.flow-of-flow-requires
-flow-of-flow-requires c =
+pub flow_of-flow-requires : goal.flow_of-flow-requires
+flow_of-flow-requires c =
     let t = tables c.args.variables.now c.args.statements.now c.args.rows.now in
-    (readable_right c.args.bytes.now c.args.name t (sym c.if-not-is-readable.ensures)).few_statements
+    (readable_right c.args.bytes.now c.args.name t (sym c.if-not-is_readable.ensures)).few_statements
 
-pub wrong-kind-requires : goal.wrong-kind-requires
-wrong-kind-requires c =
+pub wrong_kind-requires : goal.wrong_kind-requires
+wrong_kind-requires c =
     let t = tables c.args.variables.now c.args.statements.now c.args.rows.now in
-    (readable_right c.args.bytes.now c.args.name t (sym c.if-not-is-readable.ensures)).few_rows
+    (readable_right c.args.bytes.now c.args.name t (sym c.if-not-is_readable.ensures)).few_rows
 
-pub out-of-span-requires : goal.out-of-span-requires
-out-of-span-requires c =
+pub out_of_span-requires : goal.out_of_span-requires
+out_of_span-requires c =
     let t = tables c.args.variables.now c.args.statements.now c.args.rows.now in
-    (readable_right c.args.bytes.now c.args.name t (sym c.if-not-is-readable.ensures)).few_rows
+    (readable_right c.args.bytes.now c.args.name t (sym c.if-not-is_readable.ensures)).few_rows
 
 pub returns-in-err-rule : goal.returns-in-err-rule
 returns-in-err-rule c =
     let b = c.args.bytes.now in
     let n = c.args.name in
     let t = tables c.args.variables.now c.args.statements.now c.args.rows.now in
-    let steps = steps_in c.flow-of-flow.result in
-    let is = unit_steps b n t steps c.flow-of-flow.ensures in
-    let k7 = clear_tables b n t (readable_right b n t (sym c.if-not-is-readable.ensures)) in
+    let steps = steps_in c.flow_of-flow.result in
+    let is = unit_steps b n t steps c.flow_of-flow.ensures in
+    let k7 = clear_tables b n t (readable_right b n t (sym c.if-not-is_readable.ensures)) in
     let first = fails b n t Order c.misplaced.result c.in-err-rule.field-0.0 (λ e. omega arith) (subst (λ u. Least (Misplaced u) c.misplaced.result) is c.misplaced.ensures) k7 c.in-err-rule.ensures in
     record { checks = exits b n t c.from-residual.result c.in-err-rule.field-0.0 c.from-residual.ensures.1 first; paths = IfOk-from_err c.from-residual.result _ c.from-residual.ensures.0 }
 
@@ -50,11 +50,11 @@ returns-in-err-rule-2 c =
     let b = c.args.bytes.now in
     let n = c.args.name in
     let t = tables c.args.variables.now c.args.statements.now c.args.rows.now in
-    let steps = steps_in c.flow-of-flow.result in
-    let is = unit_steps b n t steps c.flow-of-flow.ensures in
-    let k7 = clear_tables b n t (readable_right b n t (sym c.if-not-is-readable.ensures)) in
+    let steps = steps_in c.flow_of-flow.result in
+    let is = unit_steps b n t steps c.flow_of-flow.ensures in
+    let k7 = clear_tables b n t (readable_right b n t (sym c.if-not-is_readable.ensures)) in
     let k8 = passes b n t Order c.misplaced.result c.in-ok-rule.field-0 (λ e. omega arith) (subst (λ u. Least (Misplaced u) c.misplaced.result) is c.misplaced.ensures) k7 c.in-ok-rule.ensures in
-    let first = fails b n t Kind c.wrong-kind.result c.in-err-rule-2.field-0.0 (λ e. omega arith) (least_kind b n t c.wrong-kind.result c.wrong-kind.ensures) k8 c.in-err-rule-2.ensures in
+    let first = fails b n t Kind c.wrong_kind.result c.in-err-rule-2.field-0.0 (λ e. omega arith) (least_kind b n t c.wrong_kind.result c.wrong_kind.ensures) k8 c.in-err-rule-2.ensures in
     record { checks = exits b n t c.from-residual-in-err-rule-2.result c.in-err-rule-2.field-0.0 c.from-residual-in-err-rule-2.ensures.1 first; paths = IfOk-from_err c.from-residual-in-err-rule-2.result _ c.from-residual-in-err-rule-2.ensures.0 }
 
 pub returns-in-err-rule-3 : goal.returns-in-err-rule-3
@@ -62,11 +62,11 @@ returns-in-err-rule-3 c =
     let b = c.args.bytes.now in
     let n = c.args.name in
     let t = tables c.args.variables.now c.args.statements.now c.args.rows.now in
-    let steps = steps_in c.flow-of-flow.result in
-    let is = unit_steps b n t steps c.flow-of-flow.ensures in
-    let k7 = clear_tables b n t (readable_right b n t (sym c.if-not-is-readable.ensures)) in
+    let steps = steps_in c.flow_of-flow.result in
+    let is = unit_steps b n t steps c.flow_of-flow.ensures in
+    let k7 = clear_tables b n t (readable_right b n t (sym c.if-not-is_readable.ensures)) in
     let k8 = passes b n t Order c.misplaced.result c.in-ok-rule.field-0 (λ e. omega arith) (subst (λ u. Least (Misplaced u) c.misplaced.result) is c.misplaced.ensures) k7 c.in-ok-rule.ensures in
-    let k9 = passes b n t Kind c.wrong-kind.result c.in-ok-rule-2.field-0 (λ e. omega arith) (least_kind b n t c.wrong-kind.result c.wrong-kind.ensures) k8 c.in-ok-rule-2.ensures in
+    let k9 = passes b n t Kind c.wrong_kind.result c.in-ok-rule-2.field-0 (λ e. omega arith) (least_kind b n t c.wrong_kind.result c.wrong_kind.ensures) k8 c.in-ok-rule-2.ensures in
     let first = fails b n t Label c.mislabelled.result c.in-err-rule-3.field-0.0 (λ e. omega arith) (subst (λ u. Least (Mislabelled u) c.mislabelled.result) is c.mislabelled.ensures) k9 c.in-err-rule-3.ensures in
     record { checks = exits b n t c.from-residual-in-err-rule-3.result c.in-err-rule-3.field-0.0 c.from-residual-in-err-rule-3.ensures.1 first; paths = IfOk-from_err c.from-residual-in-err-rule-3.result _ c.from-residual-in-err-rule-3.ensures.0 }
 
@@ -75,11 +75,11 @@ returns-in-err-rule-4 c =
     let b = c.args.bytes.now in
     let n = c.args.name in
     let t = tables c.args.variables.now c.args.statements.now c.args.rows.now in
-    let steps = steps_in c.flow-of-flow.result in
-    let is = unit_steps b n t steps c.flow-of-flow.ensures in
-    let k7 = clear_tables b n t (readable_right b n t (sym c.if-not-is-readable.ensures)) in
+    let steps = steps_in c.flow_of-flow.result in
+    let is = unit_steps b n t steps c.flow_of-flow.ensures in
+    let k7 = clear_tables b n t (readable_right b n t (sym c.if-not-is_readable.ensures)) in
     let k8 = passes b n t Order c.misplaced.result c.in-ok-rule.field-0 (λ e. omega arith) (subst (λ u. Least (Misplaced u) c.misplaced.result) is c.misplaced.ensures) k7 c.in-ok-rule.ensures in
-    let k9 = passes b n t Kind c.wrong-kind.result c.in-ok-rule-2.field-0 (λ e. omega arith) (least_kind b n t c.wrong-kind.result c.wrong-kind.ensures) k8 c.in-ok-rule-2.ensures in
+    let k9 = passes b n t Kind c.wrong_kind.result c.in-ok-rule-2.field-0 (λ e. omega arith) (least_kind b n t c.wrong_kind.result c.wrong_kind.ensures) k8 c.in-ok-rule-2.ensures in
     let k10 = passes b n t Label c.mislabelled.result c.in-ok-rule-3.field-0 (λ e. omega arith) (subst (λ u. Least (Mislabelled u) c.mislabelled.result) is c.mislabelled.ensures) k9 c.in-ok-rule-3.ensures in
     let first = fails b n t Circle c.circular.result c.in-err-rule-4.field-0.0 (λ e. omega arith) (subst (λ u. Least (OnCircle u) c.circular.result) is c.circular.ensures) k10 c.in-err-rule-4.ensures in
     record { checks = exits b n t c.from-residual-in-err-rule-4.result c.in-err-rule-4.field-0.0 c.from-residual-in-err-rule-4.ensures.1 first; paths = IfOk-from_err c.from-residual-in-err-rule-4.result _ c.from-residual-in-err-rule-4.ensures.0 }
@@ -89,14 +89,14 @@ returns-in-err-rule-5 c =
     let b = c.args.bytes.now in
     let n = c.args.name in
     let t = tables c.args.variables.now c.args.statements.now c.args.rows.now in
-    let steps = steps_in c.flow-of-flow.result in
-    let is = unit_steps b n t steps c.flow-of-flow.ensures in
-    let k7 = clear_tables b n t (readable_right b n t (sym c.if-not-is-readable.ensures)) in
+    let steps = steps_in c.flow_of-flow.result in
+    let is = unit_steps b n t steps c.flow_of-flow.ensures in
+    let k7 = clear_tables b n t (readable_right b n t (sym c.if-not-is_readable.ensures)) in
     let k8 = passes b n t Order c.misplaced.result c.in-ok-rule.field-0 (λ e. omega arith) (subst (λ u. Least (Misplaced u) c.misplaced.result) is c.misplaced.ensures) k7 c.in-ok-rule.ensures in
-    let k9 = passes b n t Kind c.wrong-kind.result c.in-ok-rule-2.field-0 (λ e. omega arith) (least_kind b n t c.wrong-kind.result c.wrong-kind.ensures) k8 c.in-ok-rule-2.ensures in
+    let k9 = passes b n t Kind c.wrong_kind.result c.in-ok-rule-2.field-0 (λ e. omega arith) (least_kind b n t c.wrong_kind.result c.wrong_kind.ensures) k8 c.in-ok-rule-2.ensures in
     let k10 = passes b n t Label c.mislabelled.result c.in-ok-rule-3.field-0 (λ e. omega arith) (subst (λ u. Least (Mislabelled u) c.mislabelled.result) is c.mislabelled.ensures) k9 c.in-ok-rule-3.ensures in
     let k11 = passes b n t Circle c.circular.result c.in-ok-rule-4.field-0 (λ e. omega arith) (subst (λ u. Least (OnCircle u) c.circular.result) is c.circular.ensures) k10 c.in-ok-rule-4.ensures in
-    let first = fails b n t Range c.out-of-span.result c.in-err-rule-5.field-0.0 (λ e. omega arith) (least_range b n t c.out-of-span.result c.out-of-span.ensures) k11 c.in-err-rule-5.ensures in
+    let first = fails b n t Range c.out_of_span.result c.in-err-rule-5.field-0.0 (λ e. omega arith) (least_range b n t c.out_of_span.result c.out_of_span.ensures) k11 c.in-err-rule-5.ensures in
     record { checks = exits b n t c.from-residual-in-err-rule-5.result c.in-err-rule-5.field-0.0 c.from-residual-in-err-rule-5.ensures.1 first; paths = IfOk-from_err c.from-residual-in-err-rule-5.result _ c.from-residual-in-err-rule-5.ensures.0 }
 
 pub returns-in-Some : goal.returns-in-Some
@@ -104,14 +104,14 @@ returns-in-Some c =
     let b = c.args.bytes.now in
     let n = c.args.name in
     let t = tables c.args.variables.now c.args.statements.now c.args.rows.now in
-    let steps = steps_in c.flow-of-flow.result in
-    let is = unit_steps b n t steps c.flow-of-flow.ensures in
-    let k7 = clear_tables b n t (readable_right b n t (sym c.if-not-is-readable.ensures)) in
+    let steps = steps_in c.flow_of-flow.result in
+    let is = unit_steps b n t steps c.flow_of-flow.ensures in
+    let k7 = clear_tables b n t (readable_right b n t (sym c.if-not-is_readable.ensures)) in
     let k8 = passes b n t Order c.misplaced.result c.in-ok-rule.field-0 (λ e. omega arith) (subst (λ u. Least (Misplaced u) c.misplaced.result) is c.misplaced.ensures) k7 c.in-ok-rule.ensures in
-    let k9 = passes b n t Kind c.wrong-kind.result c.in-ok-rule-2.field-0 (λ e. omega arith) (least_kind b n t c.wrong-kind.result c.wrong-kind.ensures) k8 c.in-ok-rule-2.ensures in
+    let k9 = passes b n t Kind c.wrong_kind.result c.in-ok-rule-2.field-0 (λ e. omega arith) (least_kind b n t c.wrong_kind.result c.wrong_kind.ensures) k8 c.in-ok-rule-2.ensures in
     let k10 = passes b n t Label c.mislabelled.result c.in-ok-rule-3.field-0 (λ e. omega arith) (subst (λ u. Least (Mislabelled u) c.mislabelled.result) is c.mislabelled.ensures) k9 c.in-ok-rule-3.ensures in
     let k11 = passes b n t Circle c.circular.result c.in-ok-rule-4.field-0 (λ e. omega arith) (subst (λ u. Least (OnCircle u) c.circular.result) is c.circular.ensures) k10 c.in-ok-rule-4.ensures in
-    let k12 = passes b n t Range c.out-of-span.result c.in-ok-rule-5.field-0 (λ e. omega arith) (least_range b n t c.out-of-span.result c.out-of-span.ensures) k11 c.in-ok-rule-5.ensures in
+    let k12 = passes b n t Range c.out_of_span.result c.in-ok-rule-5.field-0 (λ e. omega arith) (least_range b n t c.out_of_span.result c.out_of_span.ensures) k11 c.in-ok-rule-5.ensures in
     let same = c.in-Some.ensures ∙ is in
     record {
       checks = few_enough_lem b n t k12 (λ j p. omega (arith, p.1, c.in-Some.paths.few, c.in-Some.paths.whole ∙ ap (λ u. length (paths u)) same));
@@ -123,12 +123,12 @@ returns-in-None c =
     let b = c.args.bytes.now in
     let n = c.args.name in
     let t = tables c.args.variables.now c.args.statements.now c.args.rows.now in
-    let steps = steps_in c.flow-of-flow.result in
-    let is = unit_steps b n t steps c.flow-of-flow.ensures in
-    let k7 = clear_tables b n t (readable_right b n t (sym c.if-not-is-readable.ensures)) in
+    let steps = steps_in c.flow_of-flow.result in
+    let is = unit_steps b n t steps c.flow_of-flow.ensures in
+    let k7 = clear_tables b n t (readable_right b n t (sym c.if-not-is_readable.ensures)) in
     let k8 = passes b n t Order c.misplaced.result c.in-ok-rule.field-0 (λ e. omega arith) (subst (λ u. Least (Misplaced u) c.misplaced.result) is c.misplaced.ensures) k7 c.in-ok-rule.ensures in
-    let k9 = passes b n t Kind c.wrong-kind.result c.in-ok-rule-2.field-0 (λ e. omega arith) (least_kind b n t c.wrong-kind.result c.wrong-kind.ensures) k8 c.in-ok-rule-2.ensures in
+    let k9 = passes b n t Kind c.wrong_kind.result c.in-ok-rule-2.field-0 (λ e. omega arith) (least_kind b n t c.wrong_kind.result c.wrong_kind.ensures) k8 c.in-ok-rule-2.ensures in
     let k10 = passes b n t Label c.mislabelled.result c.in-ok-rule-3.field-0 (λ e. omega arith) (subst (λ u. Least (Mislabelled u) c.mislabelled.result) is c.mislabelled.ensures) k9 c.in-ok-rule-3.ensures in
     let k11 = passes b n t Circle c.circular.result c.in-ok-rule-4.field-0 (λ e. omega arith) (subst (λ u. Least (OnCircle u) c.circular.result) is c.circular.ensures) k10 c.in-ok-rule-4.ensures in
-    let k12 = passes b n t Range c.out-of-span.result c.in-ok-rule-5.field-0 (λ e. omega arith) (least_range b n t c.out-of-span.result c.out-of-span.ensures) k11 c.in-ok-rule-5.ensures in
+    let k12 = passes b n t Range c.out_of_span.result c.in-ok-rule-5.field-0 (λ e. omega arith) (least_range b n t c.out_of_span.result c.out_of_span.ensures) k11 c.in-ok-rule-5.ensures in
     record { checks = too_many b n t k12 (too_many_paths b n t steps is (no_circle steps c.circular.result c.circular.ensures c.in-ok-rule-4.field-0 c.in-ok-rule-4.ensures) c.in-None.ensures); paths = tt }

@@ -8,7 +8,7 @@ use Rattle.checking.proofs.spans.term_stays.Goals as goal
 pub returns : goal.returns
 returns c =
     let ds = domains_in c.args.types.variables.now in
-    let short : length c.term-rows.result.now ≤ length c.args.working.now = omega (arith, ap length c.term-rows.ensures, term_short c.args.rows.now c.args.term, c.requires) in
-    c.stays-in-span.ensures.result
-    ∙ ap (λ b. b && stays_in ds c.term-rows.result.now) (le-leb _ _ short)
-    ∙ ap (stays_in ds) c.term-rows.ensures
+    let short : length c.term_rows.result.now ≤ length c.args.working.now = omega (arith, ap length c.term_rows.ensures, term_short c.args.rows.now c.args.term, c.requires) in
+    c.stays_in_span.ensures.result
+    ∙ ap (λ b. b && stays_in ds c.term_rows.result.now) (le-leb _ _ short)
+    ∙ ap (stays_in ds) c.term_rows.ensures

@@ -11,8 +11,8 @@ pub loop-i-preserved : goal.loop-i-preserved
 loop-i-preserved c =
     let long : length (map record_step (take c.loop-i.i c.args.statements.now)) ≤ c.loop-i.i = simp (length-map, length-take) (omega arith) in
     let few : length (steps_in c.loop-i.flow) < 200 = omega (arith, ap length c.loop-i.invariant, c.requires, c.loop-i-test.true) in
-    pushed_more (steps_in c.loop-i.flow) (steps_in c.push.new.self) c.step-of.result c.push.result c.push.ensures few
-    ∙ ap₂ (λ u s. u ++ s ∷ []) c.loop-i.invariant c.step-of.ensures
+    pushed_more (steps_in c.loop-i.flow) (steps_in c.push.new.self) c.step_of.result c.push.result c.push.ensures few
+    ∙ ap₂ (λ u s. u ++ s ∷ []) c.loop-i.invariant c.step_of.ensures
     ∙ sym (map_more record_step c.args.statements.now c.loop-i.i Hang c.loop-i-test.true)
 
 pub returns : goal.returns

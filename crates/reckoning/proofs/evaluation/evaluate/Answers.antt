@@ -19,10 +19,10 @@ loop-i-preserved g c =
     let top = c.loop-i.top in
     let row = c.index-rows-i.result in
     let inside : n ≤ top - 1 = omega (arith, c.loop-i.invariant.0, c.loop-i-test.true) in (
-      omega (arith, c.read-row-top.ensures.low, c.loop-i.invariant.0, c.loop-i-test.true),
-      omega (arith, c.read-row-top.ensures.high, c.read-row-top.auto.stack),
-      sym (take-take n (top - 1) c.read-row-top.new.stack inside) ∙ ap (take n) c.read-row-top.ensures.kept ∙ take-take n (top - 1) c.loop-i.working inside ∙ c.loop-i.invariant.2,
-      c.read-row-top.ensures.stack ∙ ap (onto a row) c.loop-i.invariant.3 ∙ sym (ap (fold a) (row_next c.args.rows.now c.loop-i.i row c.loop-i-test.true c.loop-i.auto.i c.index-rows-i.is)),
+      omega (arith, c.read_row-top.ensures.low, c.loop-i.invariant.0, c.loop-i-test.true),
+      omega (arith, c.read_row-top.ensures.high, c.read_row-top.auto.stack),
+      sym (take-take n (top - 1) c.read_row-top.new.stack inside) ∙ ap (take n) c.read_row-top.ensures.kept ∙ take-take n (top - 1) c.loop-i.working inside ∙ c.loop-i.invariant.2,
+      c.read_row-top.ensures.stack ∙ ap (onto a row) c.loop-i.invariant.3 ∙ sym (ap (fold a) (row_next c.args.rows.now c.loop-i.i row c.loop-i-test.true c.loop-i.auto.i c.index-rows-i.is)),
     )
 
 pub returns : goal.returns
@@ -32,7 +32,7 @@ returns g c =
     let rows = c.args.rows.now in
     let none : c.loop-i.i ≡ 0 = omega (arith, c.loop-i-test.false) in
     let stack : drop c.loop-i.top c.loop-i.working ≡ fold (marks_by r found) rows = c.loop-i.invariant.3 ∙ ap (λ i. fold (marks_by r found) (drop i rows)) none in
-    let is : c.mark-at.result ≡ mark_of r found rows = c.mark-at.ensures ∙ ap₂ (λ xs d. get_or xs 0 d) stack c.any-any.ensures in
+    let is : c.mark_at.result ≡ mark_of r found rows = c.mark_at.ensures ∙ ap₂ (λ xs d. get_or xs 0 d) stack c.any-any.ensures in
     record {
       mark = is ∙ sym (cond-true _ _ _ (le-leb _ _ c.if-working-rows.false));
       others = c.loop-i.invariant.2;

@@ -25,7 +25,7 @@ returns-in-Mention g c =
       low = omega arith;
       high = omega (arith, c.requires.inside, c.requires.room);
       kept = take-set-le (c.args.top - 1) _ (c.args.top - 1) _ (omega arith);
-      stack = pushed _ c.args.top c.unwrap-or.result c.requires.room c.requires.inside ∙ mention_read r found c.args.row (drop c.args.top c.args.stack.now) c.unwrap-or.result c.in-Mention.mention c.args.any c.find.result c.requires.any c.in-Mention.is c.find.ensures c.unwrap-or.ensures;
+      stack = pushed _ c.args.top c.unwrap_or.result c.requires.room c.requires.inside ∙ mention_read r found c.args.row (drop c.args.top c.args.stack.now) c.unwrap_or.result c.in-Mention.mention c.args.any c.find.result c.requires.any c.in-Mention.is c.find.ensures c.unwrap_or.ensures;
     }
 
 pub returns-in-Operator : goal.returns-in-Operator
@@ -39,5 +39,5 @@ returns-in-Operator g c =
       low = omega (arith, c.after-rest.ensures.from, c.requires.room);
       high = omega (arith, c.after-rest.ensures.from, c.after-rest.ensures.inside, c.requires.room);
       kept = take-set-le (c.args.top - 1) _ (rest - 1) _ (omega (arith, c.after-rest.ensures.from));
-      stack = pushed _ rest c.apply-mark.result (omega (arith, c.after-rest.ensures.from, c.requires.room)) c.after-rest.ensures.inside ∙ operator_read r found c.args.row st c.apply-mark.result c.in-Operator.operator c.args.any c.mark-at-first.result c.mark-at-second.result c.mark-at-third.result (drop rest c.args.stack.now) c.requires.any c.in-Operator.is c.mark-at-first.ensures c.mark-at-second.ensures c.mark-at-third.ensures c.apply-mark.ensures left;
+      stack = pushed _ rest c.apply-mark.result (omega (arith, c.after-rest.ensures.from, c.requires.room)) c.after-rest.ensures.inside ∙ operator_read r found c.args.row st c.apply-mark.result c.in-Operator.operator c.args.any c.mark_at-first.result c.mark_at-second.result c.mark_at-third.result (drop rest c.args.stack.now) c.requires.any c.in-Operator.is c.mark_at-first.ensures c.mark_at-second.ensures c.mark_at-third.ensures c.apply-mark.ensures left;
     }

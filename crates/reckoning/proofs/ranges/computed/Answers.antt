@@ -10,8 +10,8 @@ returns-in-Addi c =
     let ah : SFits w64 c.args.a.high = search rules in
     let bl : SFits w64 c.args.b.low = search rules in
     let bh : SFits w64 c.args.b.high = search rules in
-    subst (λ o. c.range-or-any.result ≡ range_computed o c.args.a c.args.b c.args.c) (sym c.in-Addi.is)
-    (c.range-or-any.ensures ∙ ap₂ ranged (sum _ _ al bl) (sum _ _ ah bh))
+    subst (λ o. c.range_or_any.result ≡ range_computed o c.args.a c.args.b c.args.c) (sym c.in-Addi.is)
+    (c.range_or_any.ensures ∙ ap₂ ranged (sum _ _ al bl) (sum _ _ ah bh))
 
 pub returns-in-Subi : goal.returns-in-Subi
 returns-in-Subi c =
@@ -19,15 +19,15 @@ returns-in-Subi c =
     let ah : SFits w64 c.args.a.high = search rules in
     let bl : SFits w64 c.args.b.low = search rules in
     let bh : SFits w64 c.args.b.high = search rules in
-    subst (λ o. c.range-or-any-in-Subi.result ≡ range_computed o c.args.a c.args.b c.args.c) (sym c.in-Subi.is)
-    (c.range-or-any-in-Subi.ensures ∙ ap₂ ranged (difference _ _ al bh) (difference _ _ ah bl))
+    subst (λ o. c.range_or_any-in-Subi.result ≡ range_computed o c.args.a c.args.b c.args.c) (sym c.in-Subi.is)
+    (c.range_or_any-in-Subi.ensures ∙ ap₂ ranged (difference _ _ al bh) (difference _ _ ah bl))
 
 pub returns-in-Negi : goal.returns-in-Negi
 returns-in-Negi c =
     let al : SFits w64 c.args.a.low = search rules in
     let ah : SFits w64 c.args.a.high = search rules in
-    subst (λ o. c.range-or-any-in-Negi.result ≡ range_computed o c.args.a c.args.b c.args.c) (sym c.in-Negi.is)
-    (c.range-or-any-in-Negi.ensures ∙ ap₂ ranged (negative _ ah) (negative _ al))
+    subst (λ o. c.range_or_any-in-Negi.result ≡ range_computed o c.args.a c.args.b c.args.c) (sym c.in-Negi.is)
+    (c.range_or_any-in-Negi.ensures ∙ ap₂ ranged (negative _ ah) (negative _ al))
 
 pub returns-in-Mini : goal.returns-in-Mini
 returns-in-Mini c =
@@ -35,8 +35,8 @@ returns-in-Mini c =
     let ah : SFits w64 c.args.a.high = search rules in
     let bl : SFits w64 c.args.b.low = search rules in
     let bh : SFits w64 c.args.b.high = search rules in
-    subst (λ o. c.range-or-any-in-Mini.result ≡ range_computed o c.args.a c.args.b c.args.c) (sym c.in-Mini.is)
-    (c.range-or-any-in-Mini.ensures ∙ ap₂ ranged (given int_min _ _ _ al bl (record { sfits = c.min.type-inv }) c.min.ensures.value) (given int_min _ _ _ ah bh (record { sfits = c.min-in-Mini.type-inv }) c.min-in-Mini.ensures.value))
+    subst (λ o. c.range_or_any-in-Mini.result ≡ range_computed o c.args.a c.args.b c.args.c) (sym c.in-Mini.is)
+    (c.range_or_any-in-Mini.ensures ∙ ap₂ ranged (given int_min _ _ _ al bl (record { sfits = c.min.type-inv }) c.min.ensures.value) (given int_min _ _ _ ah bh (record { sfits = c.min-in-Mini.type-inv }) c.min-in-Mini.ensures.value))
 
 pub returns-in-Maxi : goal.returns-in-Maxi
 returns-in-Maxi c =
@@ -44,5 +44,5 @@ returns-in-Maxi c =
     let ah : SFits w64 c.args.a.high = search rules in
     let bl : SFits w64 c.args.b.low = search rules in
     let bh : SFits w64 c.args.b.high = search rules in
-    subst (λ o. c.range-or-any-in-Maxi.result ≡ range_computed o c.args.a c.args.b c.args.c) (sym c.in-Maxi.is)
-    (c.range-or-any-in-Maxi.ensures ∙ ap₂ ranged (given int_max _ _ _ al bl (record { sfits = c.max.type-inv }) c.max.ensures.value) (given int_max _ _ _ ah bh (record { sfits = c.max-in-Maxi.type-inv }) c.max-in-Maxi.ensures.value))
+    subst (λ o. c.range_or_any-in-Maxi.result ≡ range_computed o c.args.a c.args.b c.args.c) (sym c.in-Maxi.is)
+    (c.range_or_any-in-Maxi.ensures ∙ ap₂ ranged (given int_max _ _ _ al bl (record { sfits = c.max.type-inv }) c.max.ensures.value) (given int_max _ _ _ ah bh (record { sfits = c.max-in-Maxi.type-inv }) c.max-in-Maxi.ensures.value))

@@ -27,4 +27,4 @@ returns c =
     let fs : SFits w128 c.product-s.result = record { sfits = c.product-s.type-inv } in
     let low = four least4 _ _ _ _ _ fp fq fr fs (record { sfits = c.least.type-inv }) c.least.ensures in
     let high = four greatest4 _ _ _ _ _ fp fq fr fs (record { sfits = c.greatest.type-inv }) c.greatest.ensures in
-    c.range-or-any.ensures ∙ ap₂ ranged low high ∙ (λ i. ranged (least4 (ep i) (eq i) (er i) (es i)) (greatest4 (ep i) (eq i) (er i) (es i)))
+    c.range_or_any.ensures ∙ ap₂ ranged low high ∙ (λ i. ranged (least4 (ep i) (eq i) (er i) (es i)) (greatest4 (ep i) (eq i) (er i) (es i)))

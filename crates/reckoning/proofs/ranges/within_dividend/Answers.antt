@@ -13,5 +13,5 @@ returns c =
     let small : m < 18446744073709551616 = c.max-size.type-inv in
     let low : wide (pos 0 -ℤ to_z w128 m) ≡ neg_ℤ (pos m) = omega (arith, ints, small) in
     let high : to_z w128 m ≡ pos m = omega (arith, ints, small) in
-    let size : m ≡ max (nat_abs c.args.a.low) (nat_abs c.args.a.high) = c.max-size.ensures ∙ ap₂ max (simp to_z-of_z at c.unsigned-abs.ensures.value) (simp to_z-of_z at c.unsigned-abs-2.ensures.value) in
-    c.range-or-any.ensures ∙ ap₂ ranged low high ∙ ap around_zero size
+    let size : m ≡ max (nat_abs c.args.a.low) (nat_abs c.args.a.high) = c.max-size.ensures ∙ ap₂ max (simp to_z-of_z at c.unsigned_abs.ensures.value) (simp to_z-of_z at c.unsigned_abs-2.ensures.value) in
+    c.range_or_any.ensures ∙ ap₂ ranged low high ∙ ap around_zero size

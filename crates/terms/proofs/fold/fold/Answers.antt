@@ -4,8 +4,8 @@ use Rattle.terms.specs.Terms.{fold, onto}
 use Rattle.terms.proofs.Stacking.{row_next}
 use Rattle.terms.proofs.fold.fold.Goals as goal
 
-pub push-row-top-requires : goal.push-row-top-requires
-push-row-top-requires g c = record { room = omega (arith, c.loop-i.invariant.0, c.loop-i-test.true); inside = c.loop-i.invariant.1; absent = c.absent-absent.ensures }
+pub push_row-top-requires : goal.push_row-top-requires
+push_row-top-requires g c = record { room = omega (arith, c.loop-i.invariant.0, c.loop-i-test.true); inside = c.loop-i.invariant.1; absent = c.absent-absent.ensures }
 
 pub loop-i-init : goal.loop-i-init
 loop-i-init g c =
@@ -19,10 +19,10 @@ loop-i-preserved g c =
     let top = c.loop-i.top in
     let row = c.index-rows-i.result in
     let inside : n ≤ top - 1 = omega (arith, c.loop-i.invariant.0, c.loop-i-test.true) in (
-      omega (arith, c.push-row-top.ensures.low, c.loop-i.invariant.0, c.loop-i-test.true),
-      omega (arith, c.push-row-top.ensures.high, c.push-row-top.auto.stack),
-      sym (take-take n (top - 1) c.push-row-top.new.stack inside) ∙ ap (take n) c.push-row-top.ensures.kept ∙ take-take n (top - 1) c.loop-i.stack inside ∙ c.loop-i.invariant.2,
-      c.push-row-top.ensures.stack ∙ ap (onto a row) c.loop-i.invariant.3 ∙ sym (ap (fold a) (row_next c.args.rows.now c.loop-i.i row c.loop-i-test.true c.loop-i.auto.i c.index-rows-i.is)),
+      omega (arith, c.push_row-top.ensures.low, c.loop-i.invariant.0, c.loop-i-test.true),
+      omega (arith, c.push_row-top.ensures.high, c.push_row-top.auto.stack),
+      sym (take-take n (top - 1) c.push_row-top.new.stack inside) ∙ ap (take n) c.push_row-top.ensures.kept ∙ take-take n (top - 1) c.loop-i.stack inside ∙ c.loop-i.invariant.2,
+      c.push_row-top.ensures.stack ∙ ap (onto a row) c.loop-i.invariant.3 ∙ sym (ap (fold a) (row_next c.args.rows.now c.loop-i.i row c.loop-i-test.true c.loop-i.auto.i c.index-rows-i.is)),
     )
 
 pub returns : goal.returns

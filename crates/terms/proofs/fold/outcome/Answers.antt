@@ -9,7 +9,7 @@ returns-in-Some g c =
     let rows = c.args.rows.now in
     let folded = c.in-Some.ensures in
     record {
-      value = c.entry-at.ensures ∙ ap₂ (λ st d. get_or st 0 d) folded.2 c.absent-absent.ensures ∙ sym (cond-true (leb (length rows) (length c.args.stack.now)) (outcome a rows) a.absent (le-leb (length rows) (length c.args.stack.now) folded.0));
+      value = c.entry_at.ensures ∙ ap₂ (λ st d. get_or st 0 d) folded.2 c.absent-absent.ensures ∙ sym (cond-true (leb (length rows) (length c.args.stack.now)) (outcome a rows) a.absent (le-leb (length rows) (length c.args.stack.now) folded.0));
       others = folded.3;
       unread = λ short. absurd (omega (arith, folded.0));
     }

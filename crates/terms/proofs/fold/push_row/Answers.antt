@@ -36,5 +36,5 @@ returns-in-Operator g c =
       low = omega (arith, c.after-rest.ensures.from, c.requires.room);
       high = omega (arith, c.after-rest.ensures.from, c.after-rest.ensures.inside, c.requires.room);
       kept = take-set-le (c.args.top - 1) _ (rest - 1) _ (omega (arith, c.after-rest.ensures.from));
-      stack = pushed _ rest c.operator-entry.result (omega (arith, c.after-rest.ensures.from, c.requires.room)) c.after-rest.ensures.inside ∙ operator_read a c.args.row st c.operator-entry.result c.in-Operator.operator c.args.absent c.entry-at-first.result c.entry-at-second.result c.entry-at-third.result (drop rest c.args.stack.now) c.requires.absent c.in-Operator.is c.entry-at-first.ensures c.entry-at-second.ensures c.entry-at-third.ensures c.operator-entry.ensures left;
+      stack = pushed _ rest c.operator-entry.result (omega (arith, c.after-rest.ensures.from, c.requires.room)) c.after-rest.ensures.inside ∙ operator_read a c.args.row st c.operator-entry.result c.in-Operator.operator c.args.absent c.entry_at-first.result c.entry_at-second.result c.entry_at-third.result (drop rest c.args.stack.now) c.requires.absent c.in-Operator.is c.entry_at-first.ensures c.entry_at-second.ensures c.entry_at-third.ensures c.operator-entry.ensures left;
     }

@@ -41,7 +41,7 @@ pub term-returns-in-err-used : goal.term-returns-in-err-used
 term-returns-in-err-used t c = record {
   value =
       stopped_rows c.from-residual-in-err-used.result _ _ c.from-residual-in-err-used.ensures.1
-      ∙ operands_refused (scope_of c.args.scope) c.args.left c.args.used _ c.args.rows.now _ _ _ c.in-ok-row.ensures.value c.in-ok-row.ensures.within.0 c.operands-after.ensures _ _ c.in-err-used.ensures;
+      ∙ operands_refused (scope_of c.args.scope) c.args.left c.args.used _ c.args.rows.now _ _ _ c.in-ok-row.ensures.value c.in-ok-row.ensures.within.0 c.operands_after.ensures _ _ c.in-err-used.ensures;
   same = search rules;
 }
 
@@ -49,12 +49,12 @@ pub term-returns-in-err-close : goal.term-returns-in-err-close
 term-returns-in-err-close t c = record {
   value =
       stopped_rows c.from-residual-in-err-close.result _ _ c.from-residual-in-err-close.ensures.1
-      ∙ close_refused (scope_of c.args.scope) c.args.left c.args.used _ c.args.rows.now _ _ _ c.in-ok-row.ensures.value c.in-ok-row.ensures.within.0 c.operands-after.ensures _ _ _ c.in-ok-used.ensures _ c.in-err-close.ensures;
+      ∙ close_refused (scope_of c.args.scope) c.args.left c.args.used _ c.args.rows.now _ _ _ c.in-ok-row.ensures.value c.in-ok-row.ensures.within.0 c.operands_after.ensures _ _ _ c.in-ok-used.ensures _ c.in-err-close.ensures;
   same = search rules;
 }
 
 pub term-returns : goal.term-returns
 term-returns t c = record {
-  value = closed (scope_of c.args.scope) c.args.left c.args.used _ c.args.rows.now _ _ _ c.in-ok-row.ensures.value c.in-ok-row.ensures.within.0 c.operands-after.ensures _ _ _ c.in-ok-used.ensures _ c.in-ok-close.ensures;
+  value = closed (scope_of c.args.scope) c.args.left c.args.used _ c.args.rows.now _ _ _ c.in-ok-row.ensures.value c.in-ok-row.ensures.within.0 c.operands_after.ensures _ _ _ c.in-ok-used.ensures _ c.in-ok-close.ensures;
   same = search rules;
 }

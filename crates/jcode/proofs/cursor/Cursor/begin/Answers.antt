@@ -9,4 +9,4 @@ returns-in-err-open c = record { value = exits c.from-residual.result c.from-res
 
 pub returns : goal.returns
 unfolding read_begin
-returns c = record { value = reads_after c.in-ok-open.ensures.value (reads_after c.may-gap.ensures c.row.ensures); within = search rules }
+returns c = record { value = reads_after c.in-ok-open.ensures.value (reads_after c.may_gap.ensures c.row.ensures); within = search rules }

@@ -10,4 +10,4 @@ unfolding read_listing
 returns-in-err-byte c = exits c.from-residual.result c.from-residual.ensures.1 (refuses _ (refuses _ c.in-err-byte.ensures))
 
 pub returns : goal.returns
-returns c = listed_as (scope_of c.args.scope) (reads_after c.in-ok-byte.ensures (reads_after c.may-gap.ensures c.names.ensures))
+returns c = listed_as (scope_of c.args.scope) (reads_after c.in-ok-byte.ensures (reads_after c.may_gap.ensures c.names.ensures))

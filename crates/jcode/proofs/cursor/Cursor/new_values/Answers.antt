@@ -11,7 +11,7 @@ returns-in-err-condition c =
     let l = listing_read (scope_of c.args.scope) c.in-ok-listing.ensures in
     let h = reread (within_listing c.args.scope _ l.0 l.2) refl refl (term_unread c.in-err-condition.ensures.value) in
     lays_refused c.from-residual-in-err-condition.result c.from-residual-in-err-condition.ensures.1
-    (refuses _ (reads_after c.in-ok-gap.ensures (refuses_pair _ l.1 (reads_after c.may-gap.ensures (refuses _ h)))))
+    (refuses _ (reads_after c.in-ok-gap.ensures (refuses_pair _ l.1 (reads_after c.may_gap.ensures (refuses _ h)))))
 
 pub returns-in-err-text : goal.returns-in-err-text
 returns-in-err-text c =
@@ -19,7 +19,7 @@ returns-in-err-text c =
     let t = term_read c.in-ok-condition.ensures.value in
     let h = reread (within_listing c.args.scope _ l.0 l.2) refl refl t.1 in
     lays_refused c.from-residual-in-err-text.result c.from-residual-in-err-text.ensures.1
-    (refuses _ (reads_after c.in-ok-gap.ensures (refuses_pair _ l.1 (reads_after c.may-gap.ensures (refuses_pair _ h c.in-err-text.ensures)))))
+    (refuses _ (reads_after c.in-ok-gap.ensures (refuses_pair _ l.1 (reads_after c.may_gap.ensures (refuses_pair _ h c.in-err-text.ensures)))))
 
 pub returns : goal.returns
 returns c =
@@ -27,6 +27,6 @@ returns c =
     let t = term_read c.in-ok-condition.ensures.value in
     let h = reread (within_listing c.args.scope _ l.0 l.2) refl refl t.1 in
     lays (New l.0 t.0 c.in-ok-text.text)
-    (reads_giving (λ p. New p.0 p.1.0 p.1.1) (reads_after c.in-ok-gap.ensures (reads_pair _ l.1 (reads_after c.may-gap.ensures (reads_pair _ h c.in-ok-text.ensures)))))
+    (reads_giving (λ p. New p.0 p.1.0 p.1.1) (reads_after c.in-ok-gap.ensures (reads_pair _ l.1 (reads_after c.may_gap.ensures (reads_pair _ h c.in-ok-text.ensures)))))
     (λ k. stands.New (l.2 k) (t.2 k) c.in-ok-text.text)
     t.3

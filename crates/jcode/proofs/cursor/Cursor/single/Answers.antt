@@ -9,12 +9,12 @@ returns-in-err-byte c = exits c.from-residual.result c.from-residual.ensures.1 (
 
 pub returns-in-err-variable : goal.returns-in-err-variable
 unfolding read_single
-returns-in-err-variable c = reads_after c.in-ok-byte.ensures (reads_after c.may-gap.ensures (exits c.from-residual-in-err-variable.result c.from-residual-in-err-variable.ensures.1 (refuses _ c.in-err-variable.ensures)))
+returns-in-err-variable c = reads_after c.in-ok-byte.ensures (reads_after c.may_gap.ensures (exits c.from-residual-in-err-variable.result c.from-residual-in-err-variable.ensures.1 (refuses _ c.in-err-variable.ensures)))
 
 pub returns-in-err-close : goal.returns-in-err-close
 unfolding read_single
-returns-in-err-close c = reads_after c.in-ok-byte.ensures (reads_after c.may-gap.ensures (exits c.from-residual-in-err-close.result c.from-residual-in-err-close.ensures.1 (refuses_before c.in-ok-variable.ensures c.in-err-close.ensures)))
+returns-in-err-close c = reads_after c.in-ok-byte.ensures (reads_after c.may_gap.ensures (exits c.from-residual-in-err-close.result c.from-residual-in-err-close.ensures.1 (refuses_before c.in-ok-variable.ensures c.in-err-close.ensures)))
 
 pub returns : goal.returns
 unfolding read_single
-returns c = reads_after c.in-ok-byte.ensures (reads_after c.may-gap.ensures (reads_before c.in-ok-variable.ensures c.in-ok-close.ensures))
+returns c = reads_after c.in-ok-byte.ensures (reads_after c.may_gap.ensures (reads_before c.in-ok-variable.ensures c.in-ok-close.ensures))

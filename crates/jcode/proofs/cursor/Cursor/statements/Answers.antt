@@ -20,13 +20,13 @@ pub overflow-add-counts-in-loop-self : goal.overflow-add-counts-in-loop-self
 overflow-add-counts-in-loop-self c =
     let more : goes_on c.args.self.now.bytes.now c.loop-self.self.at ≡ true = ap (λ b. goes_on b c.loop-self.self.at) (sym c.loop-self.invariant.same) ∙ sym c.loop-self-test.ensures in
     let long : length c.args.rows.now < 2 ^ 64 = search rules in
-    omega (arith, c.row-count.ensures, in_room (scope_of c.args.scope) c.args.self.now c.args.statements.now c.args.rows.now c.loop-self.self c.loop-self.statements c.loop-self.rows c.loop-self.counts c.loop-self.invariant c.loop-self.auto.statements c.loop-self.auto.rows more _ _ _ c.in-ok-statement.ensures.value long)
+    omega (arith, c.row_count.ensures, in_room (scope_of c.args.scope) c.args.self.now c.args.statements.now c.args.rows.now c.loop-self.self c.loop-self.statements c.loop-self.rows c.loop-self.counts c.loop-self.invariant c.loop-self.auto.statements c.loop-self.auto.rows more _ _ _ c.in-ok-statement.ensures.value long)
 
 pub loop-self-preserved : goal.loop-self-preserved
 loop-self-preserved c =
     let more : goes_on c.args.self.now.bytes.now c.loop-self.self.at ≡ true = ap (λ b. goes_on b c.loop-self.self.at) (sym c.loop-self.invariant.same) ∙ sym c.loop-self-test.ensures in
     let long : length c.args.rows.now < 2 ^ 64 = search rules in
-    rw c.row-count.ensures (one_more (scope_of c.args.scope) c.args.self.now c.args.statements.now c.args.rows.now c.loop-self.self c.loop-self.statements c.loop-self.rows c.loop-self.counts c.loop-self.invariant c.loop-self.auto.statements c.loop-self.auto.rows more _ _ _ c.in-ok-statement.ensures.value long (omega (arith, c.in-ok-statement.ensures.within, c.loop-self.auto.statements)))
+    rw c.row_count.ensures (one_more (scope_of c.args.scope) c.args.self.now c.args.statements.now c.args.rows.now c.loop-self.self c.loop-self.statements c.loop-self.rows c.loop-self.counts c.loop-self.invariant c.loop-self.auto.statements c.loop-self.auto.rows more _ _ _ c.in-ok-statement.ensures.value long (omega (arith, c.in-ok-statement.ensures.within, c.loop-self.auto.statements)))
 
 pub returns-in-err-finish : goal.returns-in-err-finish
 returns-in-err-finish c =
