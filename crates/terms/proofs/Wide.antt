@@ -1,5 +1,5 @@
 -- What two numbers of 64 bits give in 128 bits is exact.
-use Rattle.std.proofs.Common.{◌≡◌, ℕ, zero, suc, ◌+◌, ◌*◌, ◌/◌, ◌%◌, ◌<◌, ◌≤◌, ℤ, pos, negsuc, ◌-ℤ◌, ◌*ℤ◌, neg_ℤ, nat_abs, refl, mul-le-mul, mul-zero, div-le_self, arith, w64, SFits, to_z, of_z}
+use Rattle.std.proofs.Common.{◌≡◌, ℕ, zero, suc, ◌*◌, ◌/◌, ◌≤◌, ℤ, pos, negsuc, ◌*ℤ◌, neg_ℤ, nat_abs, refl, mul-le-mul, mul-zero, div-le_self, arith, w64, SFits, to_z, of_z}
 use native.Mathlib.Nat.{div-add-mod}
 use lib.Signed.{mag, quot_z, rem_z, mag_rem}
 use mir.Syntax.{w128}

@@ -1,6 +1,6 @@
 -- Worked examples of what terms come to.
 use Rattle.std.specs.Prelude.{◌≡◌, ℕ, List, [], ◌∷◌, length, ℤ, pos, negsuc}
-use Rattle.terms.specs.declared.operator.Operator.TheVariants.{Addi, Subi, Negi, Divi, Mod, Odd, Lti, Implies, Impliedby, Notimplies, Notimpliedby, If}
+use Rattle.terms.specs.declared.operator.Operator.TheVariants.{Addi, Subi, Negi, Odd, Lti, Implies, Impliedby, Notimplies, Notimpliedby, If}
 use Rattle.terms.specs.declared.row.Row.{Row}
 use Rattle.terms.specs.declared.row.Row.TheVariants.{Constant, Mention, Operator}
 use Rattle.terms.specs.Numbers.{computed, quotient, remainder}

@@ -1,4 +1,4 @@
-use Rattle.std.proofs.Common.{ap, ◌∙◌}
+use Rattle.std.proofs.Common.{ap}
 use Rattle.terms.proofs.Table.{first_part, part_of}
 use Rattle.terms.proofs.operator.find.Goals as goal
 
