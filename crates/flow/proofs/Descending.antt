@@ -1,12 +1,11 @@
 -- A path by its number, one place after the other.
 use Rattle.std.proofs.Common.{◌≡◌, ℕ, zero, suc, ◌+◌, ◌-◌, ◌<◌, ◌≤◌, Bool, true, false, List, [], ◌∷◌, ◌++◌, map, length, get_or, Some, None, Option, sym, refl, ap, ◌∙◌, subst, arith, length-append}
-use lib.ListN.{length-map}
 use Rattle.std.specs.List.{AllByRecursion as All}
-use Rattle.std.proofs.lemmas.List.{get_or_append_left, get_or-append_right, get_or-map}
+use Rattle.std.proofs.lemmas.List.{get_or_append_left, get_or-append_right, get_or-map, length-map}
 use Rattle.std.proofs.ByRecursion.{All-weaker}
 use Rattle.flow.specs.declared.step.Step.{Step}
 use Rattle.flow.specs.declared.turn.Turn.{Turn}
-use Rattle.flow.specs.Steps.{at, Acyclic}
+use Rattle.flow.specs.Steps.{Acyclic}
 use Rattle.flow.specs.Paths.{required}
 use Rattle.flow.specs.Numbers.{may, among, onward, gather, here, ways, ways_to, ways_from}
 use Rattle.flow.specs.Counts.{limit, ends, Counted}

@@ -1,9 +1,9 @@
 -- The flow BREAK, REQUIRE, HANG has one path and no circle.
-use Rattle.std.proofs.Common.{◌≡◌, ℕ, zero, suc, ◌<◌, Bool, true, false, List, [], ◌∷◌, ◌++◌, length, sym, refl, ap, ◌∙◌, subst, ⊎_elim, arith}
+use Rattle.std.proofs.Common.{◌≡◌, ℕ, zero, suc, ◌<◌, Bool, true, false, List, [], ◌∷◌, ◌++◌, length, ap, ◌∙◌, subst, ⊎_elim, arith}
 use Rattle.std.proofs.lemmas.Bool.{eqb-true}
 use Rattle.flow.specs.declared.step.Step.{Step}
 use Rattle.flow.specs.declared.step.Step.TheVariants.{Hang, Break, Require}
-use Rattle.flow.specs.Steps.{at, leads, Next, Reach, one, onto}
+use Rattle.flow.specs.Steps.{at, leads, Reach, one, onto}
 use Rattle.flow.specs.Flows.{Pushed}
 use Rattle.flow.specs.Counts.{TooMany}
 use Rattle.flow.proofs.Leading.{never}

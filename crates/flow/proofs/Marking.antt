@@ -1,5 +1,5 @@
 -- What is seen is reached, and once all that is seen is done, what is reached is seen.
-use Rattle.std.proofs.Common.{◌≡◌, ℕ, zero, suc, ◌+◌, ◌<◌, ◌≤◌, Bool, true, false, ◌||◌, ◌≢◌, List, [], ◌∷◌, length, get_or, set, replicate, None, Decides, sym, refl, ap, ◌∙◌, subst, ⊎_elim, true≢false, arith, get_or-set_other, get_or-set_same, below_more}
+use Rattle.std.proofs.Common.{◌≡◌, ℕ, zero, suc, ◌+◌, ◌<◌, ◌≤◌, Bool, true, false, ◌||◌, ◌≢◌, List, [], ◌∷◌, length, get_or, set, replicate, None, Decides, sym, refl, ap, ◌∙◌, ⊎_elim, true≢false, arith, get_or-set_other, get_or-set_same, below_more}
 use Rattle.std.proofs.lemmas.Bool.{cases_eq, or_cases, or_left, or_right}
 use Rattle.flow.specs.declared.step.Step.{Step}
 use Rattle.flow.specs.Steps.{at, leads, Next, Reach, one, onto}

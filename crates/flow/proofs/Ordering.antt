@@ -1,10 +1,9 @@
 -- What is out of order is a statement or the end.
-use Rattle.std.proofs.Common.{◌≡◌, ℕ, ◌+◌, ◌<◌, true, ◌≢◌, List, length, refl, ap, subst, inl, ⊎_elim, true≢false, arith}
+use Rattle.std.proofs.Common.{◌≡◌, ℕ, ◌+◌, ◌<◌, List, length, refl, inl, ⊎_elim, arith}
 use Rattle.std.proofs.lemmas.List.{get_or_past}
 use Rattle.flow.specs.declared.step.Step.{Step}
-use Rattle.flow.specs.declared.step.Step.TheVariants.{Hang, Break}
-use Rattle.flow.specs.Steps.{at, is_break}
-use Rattle.flow.specs.Orders.{Misplaced, Unopened, Unfit, Unclosed}
+use Rattle.flow.specs.declared.step.Step.TheVariants.{Hang}
+use Rattle.flow.specs.Orders.{Misplaced}
 
 pub within : (u : List Step) (i : ℕ) → Misplaced u i → i < length u + 1
 within u i = ⊎_elim (λ h. let e = h.0 in omega arith) (⊎_elim (λ h. let l = h.1 in omega arith) (λ h. let e = h.1 in omega arith))

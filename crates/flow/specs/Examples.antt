@@ -1,5 +1,5 @@
 -- Worked examples of flows.
-use Rattle.std.specs.Prelude.{◌≡◌, ℕ, List, [], ◌∷◌, Some, None}
+use Rattle.std.specs.Prelude.{◌≡◌, List, [], ◌∷◌, Some, None}
 use Rattle.flow.specs.declared.step.Step.{Step}
 use Rattle.flow.specs.declared.step.Step.TheVariants.{Hang, Break, Require, Plain, Split, When, Branch, Join}
 use Rattle.flow.specs.Steps.{OnCircle}

@@ -16,4 +16,4 @@ pub loop-j-smaller : goal.loop-j-smaller
 loop-j-smaller c = fewer c.loop-j.done c.in-Some.j (omega (arith, c.in-Some.ensures.0, c.loop-j.invariant.1)) c.in-Some.ensures.2
 
 pub returns : goal.returns
-returns c = decided c.args.steps.now c.args.i c.loop-j.seen c.loop-j.done c.loop-j.invariant.2 c.requires.0 c.in-default.ensures
+returns c = decided c.args.steps.now c.args.i c.loop-j.seen c.loop-j.done c.loop-j.invariant.2 c.requires.0 c.in_default.ensures

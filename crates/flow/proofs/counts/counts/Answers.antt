@@ -8,5 +8,5 @@ loop-t-init c = (refl, λ k h. nothing 200 k)
 pub loop-t-preserved : goal.loop-t-preserved
 loop-t-preserved c = (
   c.sweep.auto.new ∙ c.loop-t.invariant.0,
-  further c.args.steps.now c.loop-t.-t c.loop-t.counts c.sweep.new.new c.loop-t.invariant.1 c.sweep.ensures,
+  further c.args.steps.now c.loop-t._t c.loop-t.counts c.sweep.new.new c.loop-t.invariant.1 c.sweep.ensures,
 )

@@ -1,4 +1,4 @@
-use Rattle.std.proofs.Common.{◌≡◌, ◌<◌, length, sym, ap, arith}
+use Rattle.std.proofs.Common.{◌<◌, length, sym, ap, arith}
 use Rattle.flow.specs.Counts.{sum_at}
 use Rattle.flow.proofs.Counting.{scan_hit, scan_miss, scan_start, scan_end}
 use Rattle.flow.proofs.counts.sum.Goals as goal

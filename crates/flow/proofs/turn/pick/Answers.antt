@@ -8,8 +8,8 @@ use Rattle.flow.proofs.turn.pick.Goals.{then-allowed+else-k-count, else-allowed}
 pub loop-j-init : goal.loop-j-init
 loop-j-init c = begin c.args.steps.now c.args.from c.args.number c.ahead-places.result.low (scan_start c.args.steps.now c.args.from c.ahead-places.result.low c.ahead-places.result.high c.ahead-places.ensures)
 
-pub overflow-cast-result : goal.overflow-cast-result
-overflow-cast-result c = let small : c.loop-j.k ≤ c.args.number = c.loop-j.invariant.0 in search rules
+pub overflow_cast-result : goal.overflow_cast-result
+overflow_cast-result c = let small : c.loop-j.k ≤ c.args.number = c.loop-j.invariant.0 in search rules
 
 pub returns-then-k-count : goal.returns-then-k-count
 returns-then-k-count c =

@@ -1,4 +1,4 @@
-use Rattle.std.proofs.Common.{◌≡◌, ℕ, ◌<◌, min, List, length, get_or, None, sym, ap, ◌∙◌, subst, arith, rules}
+use Rattle.std.proofs.Common.{◌≡◌, ℕ, ◌<◌, min, List, length, get_or, ap, subst, arith, rules}
 use Rattle.flow.specs.declared.step.Step.{Step}
 use Rattle.flow.specs.Flows.{steps_in}
 use Rattle.flow.specs.Numbers.{ways_from}
@@ -8,7 +8,7 @@ use Rattle.flow.proofs.paths.Paths.after.Goals as goal
 use Rattle.flow.proofs.paths.Paths.after.Goals.{else-turn-steps-via-then-turn-steps+else-turn-self, else-turn-steps-via-else-turn-steps}
 
 pub returns-then-turn-self : goal.returns-then-turn-self
-returns-then-turn-self c = subst (λ u. Follows u c.args.turn c.go-on.result) c.listed-steps.ensures.steps (follows c.listed-steps.result.now c.args.turn c.go-on.result c.go-on.ensures)
+returns-then-turn-self c = subst (λ u. Follows u c.args.turn c.go_on.result) c.listed-steps.ensures.steps (follows c.listed-steps.result.now c.args.turn c.go_on.result c.go_on.ensures)
 
 pub returns-else-turn-steps : goal.returns-else-turn-steps
 returns-else-turn-steps c =

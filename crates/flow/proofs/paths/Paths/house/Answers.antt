@@ -3,4 +3,4 @@ use Rattle.flow.proofs.Housing.{few}
 use Rattle.flow.proofs.paths.Paths.house.Goals as goal
 
 pub unreachable-requires : goal.unreachable-requires
-unreachable-requires c = few (steps_in c.one-require.result) c.one-require.ensures c.in-None.ensures
+unreachable-requires c = few (steps_in c.one_require.result) c.one_require.ensures c.in-None.ensures
