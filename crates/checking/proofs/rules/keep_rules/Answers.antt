@@ -34,70 +34,70 @@ out_of_span-requires c =
     let t = tables c.args.variables.now c.args.statements.now c.args.rows.now in
     (readable_right c.args.bytes.now c.args.name t (sym c.if-not-is_readable.ensures)).few_rows
 
-pub returns-in-err-rule : goal.returns-in-err-rule
-returns-in-err-rule c =
+pub returns-in_err-rule : goal.returns-in_err-rule
+returns-in_err-rule c =
     let b = c.args.bytes.now in
     let n = c.args.name in
     let t = tables c.args.variables.now c.args.statements.now c.args.rows.now in
     let steps = steps_in c.flow_of-flow.result in
     let is = unit_steps b n t steps c.flow_of-flow.ensures in
     let k7 = clear_tables b n t (readable_right b n t (sym c.if-not-is_readable.ensures)) in
-    let first = fails b n t Order c.misplaced.result c.in-err-rule.field-0.0 (λ e. omega arith) (subst (λ u. Least (Misplaced u) c.misplaced.result) is c.misplaced.ensures) k7 c.in-err-rule.ensures in
-    record { checks = exits b n t c.from-residual.result c.in-err-rule.field-0.0 c.from-residual.ensures.1 first; paths = IfOk-from_err c.from-residual.result _ c.from-residual.ensures.0 }
+    let first = fails b n t Order c.misplaced.result c.in_err-rule.field-0.0 (λ e. omega arith) (subst (λ u. Least (Misplaced u) c.misplaced.result) is c.misplaced.ensures) k7 c.in_err-rule.ensures in
+    record { checks = exits b n t c.from_residual.result c.in_err-rule.field-0.0 c.from_residual.ensures.1 first; paths = IfOk-from_err c.from_residual.result _ c.from_residual.ensures.0 }
 
-pub returns-in-err-rule-2 : goal.returns-in-err-rule-2
-returns-in-err-rule-2 c =
+pub returns-in_err-rule-2 : goal.returns-in_err-rule-2
+returns-in_err-rule-2 c =
     let b = c.args.bytes.now in
     let n = c.args.name in
     let t = tables c.args.variables.now c.args.statements.now c.args.rows.now in
     let steps = steps_in c.flow_of-flow.result in
     let is = unit_steps b n t steps c.flow_of-flow.ensures in
     let k7 = clear_tables b n t (readable_right b n t (sym c.if-not-is_readable.ensures)) in
-    let k8 = passes b n t Order c.misplaced.result c.in-ok-rule.field-0 (λ e. omega arith) (subst (λ u. Least (Misplaced u) c.misplaced.result) is c.misplaced.ensures) k7 c.in-ok-rule.ensures in
-    let first = fails b n t Kind c.wrong_kind.result c.in-err-rule-2.field-0.0 (λ e. omega arith) (least_kind b n t c.wrong_kind.result c.wrong_kind.ensures) k8 c.in-err-rule-2.ensures in
-    record { checks = exits b n t c.from-residual-in-err-rule-2.result c.in-err-rule-2.field-0.0 c.from-residual-in-err-rule-2.ensures.1 first; paths = IfOk-from_err c.from-residual-in-err-rule-2.result _ c.from-residual-in-err-rule-2.ensures.0 }
+    let k8 = passes b n t Order c.misplaced.result c.in_ok-rule.field-0 (λ e. omega arith) (subst (λ u. Least (Misplaced u) c.misplaced.result) is c.misplaced.ensures) k7 c.in_ok-rule.ensures in
+    let first = fails b n t Kind c.wrong_kind.result c.in_err-rule-2.field-0.0 (λ e. omega arith) (least_kind b n t c.wrong_kind.result c.wrong_kind.ensures) k8 c.in_err-rule-2.ensures in
+    record { checks = exits b n t c.from_residual-in_err-rule-2.result c.in_err-rule-2.field-0.0 c.from_residual-in_err-rule-2.ensures.1 first; paths = IfOk-from_err c.from_residual-in_err-rule-2.result _ c.from_residual-in_err-rule-2.ensures.0 }
 
-pub returns-in-err-rule-3 : goal.returns-in-err-rule-3
-returns-in-err-rule-3 c =
+pub returns-in_err-rule-3 : goal.returns-in_err-rule-3
+returns-in_err-rule-3 c =
     let b = c.args.bytes.now in
     let n = c.args.name in
     let t = tables c.args.variables.now c.args.statements.now c.args.rows.now in
     let steps = steps_in c.flow_of-flow.result in
     let is = unit_steps b n t steps c.flow_of-flow.ensures in
     let k7 = clear_tables b n t (readable_right b n t (sym c.if-not-is_readable.ensures)) in
-    let k8 = passes b n t Order c.misplaced.result c.in-ok-rule.field-0 (λ e. omega arith) (subst (λ u. Least (Misplaced u) c.misplaced.result) is c.misplaced.ensures) k7 c.in-ok-rule.ensures in
-    let k9 = passes b n t Kind c.wrong_kind.result c.in-ok-rule-2.field-0 (λ e. omega arith) (least_kind b n t c.wrong_kind.result c.wrong_kind.ensures) k8 c.in-ok-rule-2.ensures in
-    let first = fails b n t Label c.mislabelled.result c.in-err-rule-3.field-0.0 (λ e. omega arith) (subst (λ u. Least (Mislabelled u) c.mislabelled.result) is c.mislabelled.ensures) k9 c.in-err-rule-3.ensures in
-    record { checks = exits b n t c.from-residual-in-err-rule-3.result c.in-err-rule-3.field-0.0 c.from-residual-in-err-rule-3.ensures.1 first; paths = IfOk-from_err c.from-residual-in-err-rule-3.result _ c.from-residual-in-err-rule-3.ensures.0 }
+    let k8 = passes b n t Order c.misplaced.result c.in_ok-rule.field-0 (λ e. omega arith) (subst (λ u. Least (Misplaced u) c.misplaced.result) is c.misplaced.ensures) k7 c.in_ok-rule.ensures in
+    let k9 = passes b n t Kind c.wrong_kind.result c.in_ok-rule-2.field-0 (λ e. omega arith) (least_kind b n t c.wrong_kind.result c.wrong_kind.ensures) k8 c.in_ok-rule-2.ensures in
+    let first = fails b n t Label c.mislabelled.result c.in_err-rule-3.field-0.0 (λ e. omega arith) (subst (λ u. Least (Mislabelled u) c.mislabelled.result) is c.mislabelled.ensures) k9 c.in_err-rule-3.ensures in
+    record { checks = exits b n t c.from_residual-in_err-rule-3.result c.in_err-rule-3.field-0.0 c.from_residual-in_err-rule-3.ensures.1 first; paths = IfOk-from_err c.from_residual-in_err-rule-3.result _ c.from_residual-in_err-rule-3.ensures.0 }
 
-pub returns-in-err-rule-4 : goal.returns-in-err-rule-4
-returns-in-err-rule-4 c =
+pub returns-in_err-rule-4 : goal.returns-in_err-rule-4
+returns-in_err-rule-4 c =
     let b = c.args.bytes.now in
     let n = c.args.name in
     let t = tables c.args.variables.now c.args.statements.now c.args.rows.now in
     let steps = steps_in c.flow_of-flow.result in
     let is = unit_steps b n t steps c.flow_of-flow.ensures in
     let k7 = clear_tables b n t (readable_right b n t (sym c.if-not-is_readable.ensures)) in
-    let k8 = passes b n t Order c.misplaced.result c.in-ok-rule.field-0 (λ e. omega arith) (subst (λ u. Least (Misplaced u) c.misplaced.result) is c.misplaced.ensures) k7 c.in-ok-rule.ensures in
-    let k9 = passes b n t Kind c.wrong_kind.result c.in-ok-rule-2.field-0 (λ e. omega arith) (least_kind b n t c.wrong_kind.result c.wrong_kind.ensures) k8 c.in-ok-rule-2.ensures in
-    let k10 = passes b n t Label c.mislabelled.result c.in-ok-rule-3.field-0 (λ e. omega arith) (subst (λ u. Least (Mislabelled u) c.mislabelled.result) is c.mislabelled.ensures) k9 c.in-ok-rule-3.ensures in
-    let first = fails b n t Circle c.circular.result c.in-err-rule-4.field-0.0 (λ e. omega arith) (subst (λ u. Least (OnCircle u) c.circular.result) is c.circular.ensures) k10 c.in-err-rule-4.ensures in
-    record { checks = exits b n t c.from-residual-in-err-rule-4.result c.in-err-rule-4.field-0.0 c.from-residual-in-err-rule-4.ensures.1 first; paths = IfOk-from_err c.from-residual-in-err-rule-4.result _ c.from-residual-in-err-rule-4.ensures.0 }
+    let k8 = passes b n t Order c.misplaced.result c.in_ok-rule.field-0 (λ e. omega arith) (subst (λ u. Least (Misplaced u) c.misplaced.result) is c.misplaced.ensures) k7 c.in_ok-rule.ensures in
+    let k9 = passes b n t Kind c.wrong_kind.result c.in_ok-rule-2.field-0 (λ e. omega arith) (least_kind b n t c.wrong_kind.result c.wrong_kind.ensures) k8 c.in_ok-rule-2.ensures in
+    let k10 = passes b n t Label c.mislabelled.result c.in_ok-rule-3.field-0 (λ e. omega arith) (subst (λ u. Least (Mislabelled u) c.mislabelled.result) is c.mislabelled.ensures) k9 c.in_ok-rule-3.ensures in
+    let first = fails b n t Circle c.circular.result c.in_err-rule-4.field-0.0 (λ e. omega arith) (subst (λ u. Least (OnCircle u) c.circular.result) is c.circular.ensures) k10 c.in_err-rule-4.ensures in
+    record { checks = exits b n t c.from_residual-in_err-rule-4.result c.in_err-rule-4.field-0.0 c.from_residual-in_err-rule-4.ensures.1 first; paths = IfOk-from_err c.from_residual-in_err-rule-4.result _ c.from_residual-in_err-rule-4.ensures.0 }
 
-pub returns-in-err-rule-5 : goal.returns-in-err-rule-5
-returns-in-err-rule-5 c =
+pub returns-in_err-rule-5 : goal.returns-in_err-rule-5
+returns-in_err-rule-5 c =
     let b = c.args.bytes.now in
     let n = c.args.name in
     let t = tables c.args.variables.now c.args.statements.now c.args.rows.now in
     let steps = steps_in c.flow_of-flow.result in
     let is = unit_steps b n t steps c.flow_of-flow.ensures in
     let k7 = clear_tables b n t (readable_right b n t (sym c.if-not-is_readable.ensures)) in
-    let k8 = passes b n t Order c.misplaced.result c.in-ok-rule.field-0 (λ e. omega arith) (subst (λ u. Least (Misplaced u) c.misplaced.result) is c.misplaced.ensures) k7 c.in-ok-rule.ensures in
-    let k9 = passes b n t Kind c.wrong_kind.result c.in-ok-rule-2.field-0 (λ e. omega arith) (least_kind b n t c.wrong_kind.result c.wrong_kind.ensures) k8 c.in-ok-rule-2.ensures in
-    let k10 = passes b n t Label c.mislabelled.result c.in-ok-rule-3.field-0 (λ e. omega arith) (subst (λ u. Least (Mislabelled u) c.mislabelled.result) is c.mislabelled.ensures) k9 c.in-ok-rule-3.ensures in
-    let k11 = passes b n t Circle c.circular.result c.in-ok-rule-4.field-0 (λ e. omega arith) (subst (λ u. Least (OnCircle u) c.circular.result) is c.circular.ensures) k10 c.in-ok-rule-4.ensures in
-    let first = fails b n t Range c.out_of_span.result c.in-err-rule-5.field-0.0 (λ e. omega arith) (least_range b n t c.out_of_span.result c.out_of_span.ensures) k11 c.in-err-rule-5.ensures in
-    record { checks = exits b n t c.from-residual-in-err-rule-5.result c.in-err-rule-5.field-0.0 c.from-residual-in-err-rule-5.ensures.1 first; paths = IfOk-from_err c.from-residual-in-err-rule-5.result _ c.from-residual-in-err-rule-5.ensures.0 }
+    let k8 = passes b n t Order c.misplaced.result c.in_ok-rule.field-0 (λ e. omega arith) (subst (λ u. Least (Misplaced u) c.misplaced.result) is c.misplaced.ensures) k7 c.in_ok-rule.ensures in
+    let k9 = passes b n t Kind c.wrong_kind.result c.in_ok-rule-2.field-0 (λ e. omega arith) (least_kind b n t c.wrong_kind.result c.wrong_kind.ensures) k8 c.in_ok-rule-2.ensures in
+    let k10 = passes b n t Label c.mislabelled.result c.in_ok-rule-3.field-0 (λ e. omega arith) (subst (λ u. Least (Mislabelled u) c.mislabelled.result) is c.mislabelled.ensures) k9 c.in_ok-rule-3.ensures in
+    let k11 = passes b n t Circle c.circular.result c.in_ok-rule-4.field-0 (λ e. omega arith) (subst (λ u. Least (OnCircle u) c.circular.result) is c.circular.ensures) k10 c.in_ok-rule-4.ensures in
+    let first = fails b n t Range c.out_of_span.result c.in_err-rule-5.field-0.0 (λ e. omega arith) (least_range b n t c.out_of_span.result c.out_of_span.ensures) k11 c.in_err-rule-5.ensures in
+    record { checks = exits b n t c.from_residual-in_err-rule-5.result c.in_err-rule-5.field-0.0 c.from_residual-in_err-rule-5.ensures.1 first; paths = IfOk-from_err c.from_residual-in_err-rule-5.result _ c.from_residual-in_err-rule-5.ensures.0 }
 
 pub returns-in-Some : goal.returns-in-Some
 returns-in-Some c =
@@ -107,11 +107,11 @@ returns-in-Some c =
     let steps = steps_in c.flow_of-flow.result in
     let is = unit_steps b n t steps c.flow_of-flow.ensures in
     let k7 = clear_tables b n t (readable_right b n t (sym c.if-not-is_readable.ensures)) in
-    let k8 = passes b n t Order c.misplaced.result c.in-ok-rule.field-0 (λ e. omega arith) (subst (λ u. Least (Misplaced u) c.misplaced.result) is c.misplaced.ensures) k7 c.in-ok-rule.ensures in
-    let k9 = passes b n t Kind c.wrong_kind.result c.in-ok-rule-2.field-0 (λ e. omega arith) (least_kind b n t c.wrong_kind.result c.wrong_kind.ensures) k8 c.in-ok-rule-2.ensures in
-    let k10 = passes b n t Label c.mislabelled.result c.in-ok-rule-3.field-0 (λ e. omega arith) (subst (λ u. Least (Mislabelled u) c.mislabelled.result) is c.mislabelled.ensures) k9 c.in-ok-rule-3.ensures in
-    let k11 = passes b n t Circle c.circular.result c.in-ok-rule-4.field-0 (λ e. omega arith) (subst (λ u. Least (OnCircle u) c.circular.result) is c.circular.ensures) k10 c.in-ok-rule-4.ensures in
-    let k12 = passes b n t Range c.out_of_span.result c.in-ok-rule-5.field-0 (λ e. omega arith) (least_range b n t c.out_of_span.result c.out_of_span.ensures) k11 c.in-ok-rule-5.ensures in
+    let k8 = passes b n t Order c.misplaced.result c.in_ok-rule.field-0 (λ e. omega arith) (subst (λ u. Least (Misplaced u) c.misplaced.result) is c.misplaced.ensures) k7 c.in_ok-rule.ensures in
+    let k9 = passes b n t Kind c.wrong_kind.result c.in_ok-rule-2.field-0 (λ e. omega arith) (least_kind b n t c.wrong_kind.result c.wrong_kind.ensures) k8 c.in_ok-rule-2.ensures in
+    let k10 = passes b n t Label c.mislabelled.result c.in_ok-rule-3.field-0 (λ e. omega arith) (subst (λ u. Least (Mislabelled u) c.mislabelled.result) is c.mislabelled.ensures) k9 c.in_ok-rule-3.ensures in
+    let k11 = passes b n t Circle c.circular.result c.in_ok-rule-4.field-0 (λ e. omega arith) (subst (λ u. Least (OnCircle u) c.circular.result) is c.circular.ensures) k10 c.in_ok-rule-4.ensures in
+    let k12 = passes b n t Range c.out_of_span.result c.in_ok-rule-5.field-0 (λ e. omega arith) (least_range b n t c.out_of_span.result c.out_of_span.ensures) k11 c.in_ok-rule-5.ensures in
     let same = c.in-Some.ensures ∙ is in
     record {
       checks = few_enough_lem b n t k12 (λ j p. omega (arith, p.1, c.in-Some.paths.few, c.in-Some.paths.whole ∙ ap (λ u. length (paths u)) same));
@@ -126,9 +126,9 @@ returns-in-None c =
     let steps = steps_in c.flow_of-flow.result in
     let is = unit_steps b n t steps c.flow_of-flow.ensures in
     let k7 = clear_tables b n t (readable_right b n t (sym c.if-not-is_readable.ensures)) in
-    let k8 = passes b n t Order c.misplaced.result c.in-ok-rule.field-0 (λ e. omega arith) (subst (λ u. Least (Misplaced u) c.misplaced.result) is c.misplaced.ensures) k7 c.in-ok-rule.ensures in
-    let k9 = passes b n t Kind c.wrong_kind.result c.in-ok-rule-2.field-0 (λ e. omega arith) (least_kind b n t c.wrong_kind.result c.wrong_kind.ensures) k8 c.in-ok-rule-2.ensures in
-    let k10 = passes b n t Label c.mislabelled.result c.in-ok-rule-3.field-0 (λ e. omega arith) (subst (λ u. Least (Mislabelled u) c.mislabelled.result) is c.mislabelled.ensures) k9 c.in-ok-rule-3.ensures in
-    let k11 = passes b n t Circle c.circular.result c.in-ok-rule-4.field-0 (λ e. omega arith) (subst (λ u. Least (OnCircle u) c.circular.result) is c.circular.ensures) k10 c.in-ok-rule-4.ensures in
-    let k12 = passes b n t Range c.out_of_span.result c.in-ok-rule-5.field-0 (λ e. omega arith) (least_range b n t c.out_of_span.result c.out_of_span.ensures) k11 c.in-ok-rule-5.ensures in
-    record { checks = too_many b n t k12 (too_many_paths b n t steps is (no_circle steps c.circular.result c.circular.ensures c.in-ok-rule-4.field-0 c.in-ok-rule-4.ensures) c.in-None.ensures); paths = tt }
+    let k8 = passes b n t Order c.misplaced.result c.in_ok-rule.field-0 (λ e. omega arith) (subst (λ u. Least (Misplaced u) c.misplaced.result) is c.misplaced.ensures) k7 c.in_ok-rule.ensures in
+    let k9 = passes b n t Kind c.wrong_kind.result c.in_ok-rule-2.field-0 (λ e. omega arith) (least_kind b n t c.wrong_kind.result c.wrong_kind.ensures) k8 c.in_ok-rule-2.ensures in
+    let k10 = passes b n t Label c.mislabelled.result c.in_ok-rule-3.field-0 (λ e. omega arith) (subst (λ u. Least (Mislabelled u) c.mislabelled.result) is c.mislabelled.ensures) k9 c.in_ok-rule-3.ensures in
+    let k11 = passes b n t Circle c.circular.result c.in_ok-rule-4.field-0 (λ e. omega arith) (subst (λ u. Least (OnCircle u) c.circular.result) is c.circular.ensures) k10 c.in_ok-rule-4.ensures in
+    let k12 = passes b n t Range c.out_of_span.result c.in_ok-rule-5.field-0 (λ e. omega arith) (least_range b n t c.out_of_span.result c.out_of_span.ensures) k11 c.in_ok-rule-5.ensures in
+    record { checks = too_many b n t k12 (too_many_paths b n t steps is (no_circle steps c.circular.result c.circular.ensures c.in_ok-rule-4.field-0 c.in_ok-rule-4.ensures) c.in-None.ensures); paths = tt }

@@ -2,9 +2,9 @@ use Rattle.std.proofs.Common.{rules}
 use Rattle.jcode.specs.ReadStatements.{read_again}
 use Rattle.jcode.proofs.cursor.Cursor.again.Goals as goal
 
-pub returns-in-err-other : goal.returns-in-err-other
+pub returns-in_err-other : goal.returns-in_err-other
 unfolding read_again
-returns-in-err-other c = search rules
+returns-in_err-other c = search rules
 
 pub returns-then-other-variable : goal.returns-then-other-variable
 unfolding read_again

@@ -4,32 +4,32 @@ use Rattle.jcode.proofs.Chains.{reads_after, reads_before, reads_pair, reads_giv
 use Rattle.jcode.proofs.Laying.{term_read, term_unread, reread, room_kept, after_shadow, assign_laid, assign_written, lays, lays_refused}
 use Rattle.jcode.proofs.cursor.Cursor.assign.Goals as goal
 
-pub returns-in-err-shadow : goal.returns-in-err-shadow
-returns-in-err-shadow c =
-    lays_refused c.from-residual-in-err-shadow.result c.from-residual-in-err-shadow.ensures.1
-    (refuses _ (reads_after c.in-ok-gap.ensures (refuses_pair _ c.in-ok-variable.ensures (reads_after c.may_gap.ensures (refuses _ (term_unread c.in-err-shadow.ensures.value))))))
+pub returns-in_err-shadow : goal.returns-in_err-shadow
+returns-in_err-shadow c =
+    lays_refused c.from_residual-in_err-shadow.result c.from_residual-in_err-shadow.ensures.1
+    (refuses _ (reads_after c.in_ok-gap.ensures (refuses_pair _ c.in_ok-variable.ensures (reads_after c.may_gap.ensures (refuses _ (term_unread c.in_err-shadow.ensures.value))))))
 
-pub returns-in-err-value : goal.returns-in-err-value
-returns-in-err-value c =
-    let t = term_read c.in-ok-shadow.ensures.value in
-    let h = reread refl (room_kept c.args.rows.now c.args.used t.0 t.3) (after_shadow c.args.rows.now c.args.used t.0 t.2) (term_unread c.in-err-value.ensures.value) in
-    lays_refused c.from-residual-in-err-value.result c.from-residual-in-err-value.ensures.1
-    (refuses _ (reads_after c.in-ok-gap.ensures (refuses_pair _ c.in-ok-variable.ensures (reads_after c.may_gap.ensures (refuses_pair _ t.1 (reads_after c.may_gap-2.ensures (refuses _ h)))))))
+pub returns-in_err-value : goal.returns-in_err-value
+returns-in_err-value c =
+    let t = term_read c.in_ok-shadow.ensures.value in
+    let h = reread refl (room_kept c.args.rows.now c.args.used t.0 t.3) (after_shadow c.args.rows.now c.args.used t.0 t.2) (term_unread c.in_err-value.ensures.value) in
+    lays_refused c.from_residual-in_err-value.result c.from_residual-in_err-value.ensures.1
+    (refuses _ (reads_after c.in_ok-gap.ensures (refuses_pair _ c.in_ok-variable.ensures (reads_after c.may_gap.ensures (refuses_pair _ t.1 (reads_after c.may_gap-2.ensures (refuses _ h)))))))
 
-pub returns-in-err-end : goal.returns-in-err-end
-returns-in-err-end c =
-    let t = term_read c.in-ok-shadow.ensures.value in
-    let u = term_read c.in-ok-value.ensures.value in
+pub returns-in_err-end : goal.returns-in_err-end
+returns-in_err-end c =
+    let t = term_read c.in_ok-shadow.ensures.value in
+    let u = term_read c.in_ok-value.ensures.value in
     let h = reread refl (room_kept c.args.rows.now c.args.used t.0 t.3) (after_shadow c.args.rows.now c.args.used t.0 t.2) u.1 in
-    lays_refused c.from-residual-in-err-end.result c.from-residual-in-err-end.ensures.1
-    (refuses _ (reads_after c.in-ok-gap.ensures (refuses_pair _ c.in-ok-variable.ensures (reads_after c.may_gap.ensures (refuses_pair _ t.1 (reads_after c.may_gap-2.ensures (refuses_before h c.in-err-end.ensures)))))))
+    lays_refused c.from_residual-in_err-end.result c.from_residual-in_err-end.ensures.1
+    (refuses _ (reads_after c.in_ok-gap.ensures (refuses_pair _ c.in_ok-variable.ensures (reads_after c.may_gap.ensures (refuses_pair _ t.1 (reads_after c.may_gap-2.ensures (refuses_before h c.in_err-end.ensures)))))))
 
 pub returns : goal.returns
 returns c =
-    let t = term_read c.in-ok-shadow.ensures.value in
-    let u = term_read c.in-ok-value.ensures.value in
+    let t = term_read c.in_ok-shadow.ensures.value in
+    let u = term_read c.in_ok-value.ensures.value in
     let h = reread refl (room_kept c.args.rows.now c.args.used t.0 t.3) (after_shadow c.args.rows.now c.args.used t.0 t.2) u.1 in
-    lays (Assign c.in-ok-variable.variable t.0 u.0)
-    (reads_giving (λ p. Assign p.0 p.1.0 p.1.1) (reads_after c.in-ok-gap.ensures (reads_pair _ c.in-ok-variable.ensures (reads_after c.may_gap.ensures (reads_pair _ t.1 (reads_after c.may_gap-2.ensures (reads_before h c.in-ok-end.ensures)))))))
-    (assign_laid c.args.rows.now c.args.used t.0 u.0 t.2 c.in-ok-variable.variable u.2)
+    lays (Assign c.in_ok-variable.variable t.0 u.0)
+    (reads_giving (λ p. Assign p.0 p.1.0 p.1.1) (reads_after c.in_ok-gap.ensures (reads_pair _ c.in_ok-variable.ensures (reads_after c.may_gap.ensures (reads_pair _ t.1 (reads_after c.may_gap-2.ensures (reads_before h c.in_ok-end.ensures)))))))
+    (assign_laid c.args.rows.now c.args.used t.0 u.0 t.2 c.in_ok-variable.variable u.2)
     (assign_written c.args.rows.now c.args.used t.0 u.0 t.2 t.3 u.3)

@@ -2,9 +2,9 @@ use Rattle.std.proofs.Common.{rules}
 use Rattle.jcode.specs.ReadUnits.{read_domain}
 use Rattle.jcode.proofs.cursor.Cursor.domain.Goals as goal
 
-pub returns-in-err-word : goal.returns-in-err-word
+pub returns-in_err-word : goal.returns-in_err-word
 unfolding read_domain
-returns-in-err-word c = search rules
+returns-in_err-word c = search rules
 
 pub returns-in-Some-Integer : goal.returns-in-Some-Integer
 unfolding read_domain

@@ -2,9 +2,9 @@ use Rattle.std.proofs.Common.{rules}
 use Rattle.jcode.specs.ReadUnits.{read_fresh}
 use Rattle.jcode.proofs.cursor.Cursor.fresh_name.Goals as goal
 
-pub returns-in-err-name : goal.returns-in-err-name
+pub returns-in_err-name : goal.returns-in_err-name
 unfolding read_fresh
-returns-in-err-name c = search rules
+returns-in_err-name c = search rules
 
 pub returns-in-None : goal.returns-in-None
 unfolding read_fresh

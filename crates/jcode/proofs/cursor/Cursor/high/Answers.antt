@@ -2,9 +2,9 @@ use Rattle.std.proofs.Common.{rules}
 use Rattle.jcode.specs.ReadUnits.{read_high}
 use Rattle.jcode.proofs.cursor.Cursor.high.Goals as goal
 
-pub returns-in-err-high : goal.returns-in-err-high
+pub returns-in_err-high : goal.returns-in_err-high
 unfolding read_high
-returns-in-err-high c = search rules
+returns-in_err-high c = search rules
 
 pub returns-then-low-high : goal.returns-then-low-high
 unfolding read_high

@@ -2,18 +2,18 @@ use Rattle.jcode.specs.ReadStatements.{read_gap_label}
 use Rattle.jcode.proofs.Chains.{reads_after, reads_before, refuses, refuses_before, exits}
 use Rattle.jcode.proofs.cursor.Cursor.label_after_gap.Goals as goal
 
-pub returns-in-err-gap : goal.returns-in-err-gap
+pub returns-in_err-gap : goal.returns-in_err-gap
 unfolding read_gap_label
-returns-in-err-gap c = exits c.from-residual.result c.from-residual.ensures.1 (refuses _ c.in-err-gap.ensures)
+returns-in_err-gap c = exits c.from_residual.result c.from_residual.ensures.1 (refuses _ c.in_err-gap.ensures)
 
-pub returns-in-err-label : goal.returns-in-err-label
+pub returns-in_err-label : goal.returns-in_err-label
 unfolding read_gap_label
-returns-in-err-label c = reads_after c.in-ok-gap.ensures (exits c.from-residual-in-err-label.result c.from-residual-in-err-label.ensures.1 (refuses _ c.in-err-label.ensures))
+returns-in_err-label c = reads_after c.in_ok-gap.ensures (exits c.from_residual-in_err-label.result c.from_residual-in_err-label.ensures.1 (refuses _ c.in_err-label.ensures))
 
-pub returns-in-err-end : goal.returns-in-err-end
+pub returns-in_err-end : goal.returns-in_err-end
 unfolding read_gap_label
-returns-in-err-end c = reads_after c.in-ok-gap.ensures (exits c.from-residual-in-err-end.result c.from-residual-in-err-end.ensures.1 (refuses_before c.in-ok-label.ensures c.in-err-end.ensures))
+returns-in_err-end c = reads_after c.in_ok-gap.ensures (exits c.from_residual-in_err-end.result c.from_residual-in_err-end.ensures.1 (refuses_before c.in_ok-label.ensures c.in_err-end.ensures))
 
 pub returns : goal.returns
 unfolding read_gap_label
-returns c = reads_after c.in-ok-gap.ensures (reads_before c.in-ok-label.ensures c.in-ok-end.ensures)
+returns c = reads_after c.in_ok-gap.ensures (reads_before c.in_ok-label.ensures c.in_ok-end.ensures)

@@ -5,9 +5,9 @@ use Rattle.jcode.proofs.Chains.{reads_after, refuses, exits}
 use Rattle.jcode.proofs.Listings.{listed_as}
 use Rattle.jcode.proofs.cursor.Cursor.listing.Goals as goal
 
-pub returns-in-err-byte : goal.returns-in-err-byte
+pub returns-in_err-byte : goal.returns-in_err-byte
 unfolding read_listing
-returns-in-err-byte c = exits c.from-residual.result c.from-residual.ensures.1 (refuses _ (refuses _ c.in-err-byte.ensures))
+returns-in_err-byte c = exits c.from_residual.result c.from_residual.ensures.1 (refuses _ (refuses _ c.in_err-byte.ensures))
 
 pub returns : goal.returns
-returns c = listed_as (scope_of c.args.scope) (reads_after c.in-ok-byte.ensures (reads_after c.may_gap.ensures c.names.ensures))
+returns c = listed_as (scope_of c.args.scope) (reads_after c.in_ok-byte.ensures (reads_after c.may_gap.ensures c.names.ensures))

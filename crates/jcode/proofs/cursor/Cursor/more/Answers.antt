@@ -12,46 +12,46 @@ loop-self-init c =
     let e = c.push.ensures in
     (refl, e ∙ ap (λ l. listing_of (listed_in l)) (sym e), omega (arith, ap (λ l. l.count) e), ap (λ l. read_more (scope_of c.args.scope) (8 - l.count) (listed_in l) c.args.self.now.bytes.now c.args.self.now.at) e)
 
-pub returns-in-err-gap : goal.returns-in-err-gap
-returns-in-err-gap c =
+pub returns-in_err-gap : goal.returns-in_err-gap
+returns-in_err-gap c =
     let n : goes_on c.args.self.now.bytes.now c.loop-self.self.at ≡ true = ap (λ b. goes_on b c.loop-self.self.at) (sym c.loop-self.invariant.0) ∙ sym c.loop-self-test.ensures in
     record {
-      value = stopped c.from-residual.result _ c.from-residual.ensures.1 ∙ off (λ vs j. got (listing_of vs) j) (gap_refused (scope_of c.args.scope) c.loop-self.listing c.args.self.now.bytes.now _ _ c.loop-self.invariant.0 c.loop-self.invariant.3 n c.in-err-gap.ensures);
+      value = stopped c.from_residual.result _ c.from_residual.ensures.1 ∙ off (λ vs j. got (listing_of vs) j) (gap_refused (scope_of c.args.scope) c.loop-self.listing c.args.self.now.bytes.now _ _ c.loop-self.invariant.0 c.loop-self.invariant.3 n c.in_err-gap.ensures);
       same = search rules;
     }
 
-pub returns-in-err-variable : goal.returns-in-err-variable
-returns-in-err-variable c =
+pub returns-in_err-variable : goal.returns-in_err-variable
+returns-in_err-variable c =
     let n : goes_on c.args.self.now.bytes.now c.loop-self.self.at ≡ true = ap (λ b. goes_on b c.loop-self.self.at) (sym c.loop-self.invariant.0) ∙ sym c.loop-self-test.ensures in
     record {
-      value = stopped c.from-residual-in-err-variable.result _ c.from-residual-in-err-variable.ensures.1 ∙ off (λ vs j. got (listing_of vs) j) (unseen_refused (scope_of c.args.scope) c.loop-self.listing c.args.self.now.bytes.now _ _ c.loop-self.invariant.0 c.loop-self.invariant.3 n _ _ c.in-ok-gap.ensures c.in-err-variable.ensures);
+      value = stopped c.from_residual-in_err-variable.result _ c.from_residual-in_err-variable.ensures.1 ∙ off (λ vs j. got (listing_of vs) j) (unseen_refused (scope_of c.args.scope) c.loop-self.listing c.args.self.now.bytes.now _ _ c.loop-self.invariant.0 c.loop-self.invariant.3 n _ _ c.in_ok-gap.ensures c.in_err-variable.ensures);
       same = search rules;
     }
 
 pub loop-self-smaller : goal.loop-self-smaller
 loop-self-smaller c =
-    let h = room_left (scope_of c.args.scope) c.loop-self.listing _ _ _ c.in-ok-variable.ensures in
-    let k = push_count c.loop-self.listing c.in-ok-variable.variable h in
+    let h = room_left (scope_of c.args.scope) c.loop-self.listing _ _ _ c.in_ok-variable.ensures in
+    let k = push_count c.loop-self.listing c.in_ok-variable.variable h in
     omega (arith, ap (λ l. l.count) c.push-in-loop-self.ensures)
 
 pub loop-self-preserved : goal.loop-self-preserved
 loop-self-preserved c =
     let n : goes_on c.args.self.now.bytes.now c.loop-self.self.at ≡ true = ap (λ b. goes_on b c.loop-self.self.at) (sym c.loop-self.invariant.0) ∙ sym c.loop-self-test.ensures in
-    let h = room_left (scope_of c.args.scope) c.loop-self.listing _ _ _ c.in-ok-variable.ensures in
-    let k = push_count c.loop-self.listing c.in-ok-variable.variable h in
+    let h = room_left (scope_of c.args.scope) c.loop-self.listing _ _ _ c.in_ok-variable.ensures in
+    let k = push_count c.loop-self.listing c.in_ok-variable.variable h in
     let e = c.push-in-loop-self.ensures in (
       search rules,
-      e ∙ push_proper c.loop-self.listing c.in-ok-variable.variable c.loop-self.invariant.1 h ∙ ap (λ l. listing_of (listed_in l)) (sym e),
+      e ∙ push_proper c.loop-self.listing c.in_ok-variable.variable c.loop-self.invariant.1 h ∙ ap (λ l. listing_of (listed_in l)) (sym e),
       omega (arith, ap (λ l. l.count) e),
       ap (λ l. read_more (scope_of c.args.scope) (8 - l.count) (listed_in l) c.args.self.now.bytes.now c.unseen.new.self.at) e
-          ∙ unseen_read (scope_of c.args.scope) c.loop-self.listing c.args.self.now.bytes.now _ _ c.loop-self.invariant.0 c.loop-self.invariant.3 n _ _ c.in-ok-gap.ensures c.in-ok-variable.variable c.loop-self.invariant.1 h c.in-ok-variable.ensures,
+          ∙ unseen_read (scope_of c.args.scope) c.loop-self.listing c.args.self.now.bytes.now _ _ c.loop-self.invariant.0 c.loop-self.invariant.3 n _ _ c.in_ok-gap.ensures c.in_ok-variable.variable c.loop-self.invariant.1 h c.in_ok-variable.ensures,
     )
 
-pub returns-in-err-close : goal.returns-in-err-close
-returns-in-err-close c =
+pub returns-in_err-close : goal.returns-in_err-close
+returns-in_err-close c =
     let n : goes_on c.args.self.now.bytes.now c.loop-self.self.at ≡ false = ap (λ b. goes_on b c.loop-self.self.at) (sym c.loop-self.invariant.0) ∙ sym c.loop-self-test.ensures in
     record {
-      value = stopped c.from-residual-in-err-close.result _ c.from-residual-in-err-close.ensures.1 ∙ off (λ vs j. got (listing_of vs) j) (list_unclosed (scope_of c.args.scope) c.loop-self.listing c.args.self.now.bytes.now _ _ c.loop-self.invariant.0 c.loop-self.invariant.3 n c.in-err-close.ensures);
+      value = stopped c.from_residual-in_err-close.result _ c.from_residual-in_err-close.ensures.1 ∙ off (λ vs j. got (listing_of vs) j) (list_unclosed (scope_of c.args.scope) c.loop-self.listing c.args.self.now.bytes.now _ _ c.loop-self.invariant.0 c.loop-self.invariant.3 n c.in_err-close.ensures);
       same = search rules;
     }
 
@@ -59,6 +59,6 @@ pub returns : goal.returns
 returns c =
     let n : goes_on c.args.self.now.bytes.now c.loop-self.self.at ≡ false = ap (λ b. goes_on b c.loop-self.self.at) (sym c.loop-self.invariant.0) ∙ sym c.loop-self-test.ensures in
     record {
-      value = on (λ vs j. got (listing_of vs) j) (list_closed (scope_of c.args.scope) c.loop-self.listing c.args.self.now.bytes.now _ _ c.loop-self.invariant.0 c.loop-self.invariant.3 n c.in-ok-close.ensures) (ap (λ l. got l c.close.new.self.at) c.loop-self.invariant.1);
+      value = on (λ vs j. got (listing_of vs) j) (list_closed (scope_of c.args.scope) c.loop-self.listing c.args.self.now.bytes.now _ _ c.loop-self.invariant.0 c.loop-self.invariant.3 n c.in_ok-close.ensures) (ap (λ l. got l c.close.new.self.at) c.loop-self.invariant.1);
       same = search rules;
     }
