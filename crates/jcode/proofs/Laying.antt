@@ -1,5 +1,5 @@
 -- Rows and statements that are laid out in the tables.
-use Rattle.std.proofs.Common.{◌≡◌, ℕ, ◌+◌, ◌-◌, ◌≤◌, List, [], ◌∷◌, ◌++◌, length, set, IsErrAnd, Ok, Err, Result, sym, refl, ap, ◌∙◌, arith, length-set}
+use Rattle.std.proofs.Common.{◌≡◌, ℕ, ◌+◌, ◌-◌, List, [], ◌∷◌, ◌++◌, length, set, IsErrAnd, Ok, Err, Result, sym, refl, ap, ◌∙◌, arith, length-set}
 use Rattle.jcode.specs.declared.cursor.Cursor.{Cursor}
 use Rattle.jcode.specs.declared.refusal.ReadFault.{ReadFault}
 use Rattle.jcode.specs.declared.scope.Scope.{Scope as CodeScope}
@@ -16,7 +16,7 @@ use Rattle.jcode.specs.Tables.{put}
 use Rattle.jcode.specs.ReadTerms.{UnitRow, ReadsRows, told_rows}
 use Rattle.jcode.specs.Sentences.{Sentence, Assign, Branch, rows_of, listing_of, term_at, laid}
 use Rattle.jcode.specs.ReadStatements.{ReadsTerm, Lays, laid_out, read_listing, read_listed, read_expression, read_label_end, read_branch, by_verb, listing}
-use Rattle.jcode.proofs.Chains.{on, off, stopped_rows, assoc}
+use Rattle.jcode.proofs.Chains.{off, stopped_rows, assoc}
 use Rattle.jcode.proofs.Listings.{listed_is}
 use Rattle.jcode.proofs.Stores.{put_append}
 

@@ -1,6 +1,6 @@
 -- A run over what is left of a list.
 use Rattle.std.proofs.Common.{◌≡◌, ℕ, ◌+◌, ◌<◌, ◌≤◌, Bool, true, false, cond, not, ◌&&◌, eqb, List, length, get_or, drop, ap, ◌∙◌, ⊎_elim, add-zero}
-use Rattle.std.proofs.lemmas.List.{at_drop_more, at_drop_all, get_or-drop, get_or_past}
+use Rattle.std.proofs.lemmas.List.{at_drop_more, at_drop_all, get_or-drop}
 use Rattle.std.proofs.lemmas.Bool.{cond-true, cond-false, cases_lt}
 use Rattle.jcode.specs.Bytes.{run, text_run, text_byte, text_at}
 

@@ -1,9 +1,9 @@
 -- Terms read into the row table, step by step.
-use Rattle.std.proofs.Common.{◌≡◌, ℕ, zero, suc, ◌+◌, ◌-◌, ◌<◌, ◌≤◌, true, false, eqb, List, [], ◌∷◌, ◌++◌, length, set, Ok, Err, Result, sym, refl, ap, ◌∙◌, arith, length-append, length-set}
+use Rattle.std.proofs.Common.{◌≡◌, ℕ, zero, suc, ◌+◌, ◌-◌, ◌<◌, true, false, eqb, List, [], ◌∷◌, ◌++◌, length, set, Ok, Err, Result, sym, refl, ap, ◌∙◌, arith, length-append, length-set}
 use Rattle.std.proofs.lemmas.Bool.{ne_eqb}
 use Rattle.jcode.specs.declared.refusal.ReadFault.{ReadFault}
 use Rattle.jcode.specs.declared.cursor.Cursor.{Cursor}
-use Rattle.jcode.specs.Pieces.{Answer, got, refused, Reader, and_then, Reads}
+use Rattle.jcode.specs.Pieces.{Answer, got, refused, and_then, Reads}
 use Rattle.jcode.specs.Scopes.{Scope}
 use Rattle.jcode.specs.Tables.{put}
 use Rattle.jcode.proofs.Chains.{on, off, read_in, refused_in}

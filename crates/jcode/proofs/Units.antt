@@ -1,5 +1,5 @@
 -- A unit, from its heading to its end.
-use Rattle.std.proofs.Common.{◌≡◌, ℕ, ◌≤◌, min, List, [], ◌∷◌, map, length, take, IsErrAnd, Ok, Err, Result, sym, refl, ap, ◌∙◌, arith}
+use Rattle.std.proofs.Common.{◌≡◌, ℕ, ◌≤◌, min, List, [], length, take, IsErrAnd, Ok, Err, Result, ap, ◌∙◌, arith}
 use Rattle.std.proofs.lemmas.Result.{err_from_is_err_and}
 use Rattle.jcode.specs.declared.cursor.Cursor.{Cursor}
 use Rattle.jcode.specs.declared.reader.Outline.{Outline}
@@ -8,12 +8,12 @@ use Rattle.jcode.specs.declared.span.Span.{Span}
 use Rattle.jcode.specs.declared.statement.Statement.{Statement}
 use Rattle.jcode.specs.declared.statement_reader.Counts.{Counts}
 use Rattle.jcode.specs.declared.variable.Variable.{Variable}
-use Rattle.jcode.specs.Pieces.{Answer, got, refused, Reader, and_then, Reads}
-use Rattle.jcode.specs.Scopes.{Scope, name_in}
+use Rattle.jcode.specs.Pieces.{got, Reader, Reads}
+use Rattle.jcode.specs.Scopes.{Scope}
 use Rattle.jcode.specs.Tables.{put}
 use Rattle.jcode.specs.ReadTerms.{UnitRow}
 use Rattle.jcode.specs.Sentences.{Sentence}
-use Rattle.jcode.specs.ReadUnits.{Fills, LaysAll, laid_in, rows_all, laid_all, read_heading, read_declarations, read_statements, Tables, tables, scope_in, read_body, read_rest, located, read_unit, written, over, outline, attempted, achieved}
+use Rattle.jcode.specs.ReadUnits.{Fills, LaysAll, laid_in, rows_all, laid_all, read_heading, read_declarations, read_statements, Tables, tables, scope_in, read_body, read_rest, located, read_unit, over, attempted, achieved}
 use Rattle.jcode.proofs.Chains.{reads_pair, reads_giving, refuses, refuses_pair}
 use Rattle.jcode.proofs.Fillings.{put_front, take_over}
 use Rattle.jcode.proofs.Laying.{made_of, refused_of}

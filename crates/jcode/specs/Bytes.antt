@@ -1,5 +1,5 @@
 -- Classes of bytes, the longest front of a list whose bytes are all of one class, and parts of a list.
-use Rattle.std.specs.Prelude.{ℕ, ◌+◌, Bool, true, false, cond, not, ◌&&◌, ◌||◌, List, [], ◌∷◌, length, take, drop, ◌==◌, nat_le, slice_index}
+use Rattle.std.specs.Prelude.{ℕ, ◌+◌, Bool, cond, not, ◌&&◌, ◌||◌, List, [], ◌∷◌, length, take, drop, ◌==◌, nat_le, slice_index}
 use Rattle.jcode.specs.declared.class.Class.{Class}
 use Rattle.jcode.specs.declared.class.Class.TheVariants.{Separator, Letter, Digit, Name, Text}
 use Rattle.jcode.specs.declared.span.Span.{Span}

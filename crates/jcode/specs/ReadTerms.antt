@@ -1,5 +1,5 @@
 -- Terms: how they are read.
-use Rattle.std.specs.Prelude.{◌≡◌, ℕ, zero, suc, ◌+◌, Bool, true, false, cond, List, [], ◌∷◌, ◌++◌, length, ℤ, Some, None, Ok, Err, codes, Option, Result, ◌==◌, nat_le, slice_index}
+use Rattle.std.specs.Prelude.{◌≡◌, ℕ, zero, suc, ◌+◌, Bool, true, false, cond, List, [], ◌∷◌, ◌++◌, length, Some, None, Ok, Err, codes, Option, Result, ◌==◌, nat_le, slice_index}
 use Rattle.terms.specs.declared.operator.Operator.{Operator}
 use Rattle.terms.specs.declared.row.Row.{Row}
 use Rattle.terms.specs.declared.row.Row.TheVariants.{Constant, Mention as Mentioned, Operator as Applied}
@@ -17,7 +17,7 @@ use Rattle.jcode.specs.declared.span.Span.{Span}
 use Rattle.jcode.specs.declared.term_reader.Head.{Head}
 use Rattle.jcode.specs.declared.term_reader.Head.TheVariants.{Constant as ConstantHead, Defined, New as NewHead, Operator as OperatorHead}
 use Rattle.jcode.specs.Bytes.{slice}
-use Rattle.jcode.specs.Pieces.{Answer, got, refused, Reader, refuse, and_then, ◌▷◌, ◌◁◌, ◌⊗◌, ◌giving◌, read_byte, read_gap, read_may_gap, read_name, read_number}
+use Rattle.jcode.specs.Pieces.{Answer, got, refused, Reader, refuse, and_then, ◌▷◌, ◌giving◌, read_byte, read_gap, read_may_gap, read_name, read_number}
 use Rattle.jcode.specs.Scopes.{Scope, index_of, member}
 use Rattle.jcode.specs.Tables.{put}
 

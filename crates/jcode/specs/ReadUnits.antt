@@ -1,5 +1,5 @@
 -- Declarations and units: how they are read.
-use Rattle.std.specs.Prelude.{◌≡◌, ℕ, ◌+◌, min, Bool, true, false, cond, not, List, [], ◌∷◌, ◌++◌, map, length, drop, replicate, ℤ, pos, Some, None, Ok, Err, codes, Option, Result, ◌==◌, int_le, nat_lt, slice_index}
+use Rattle.std.specs.Prelude.{◌≡◌, ℕ, ◌+◌, min, Bool, false, cond, not, List, [], ◌∷◌, ◌++◌, map, length, drop, replicate, ℤ, pos, Some, None, Ok, Err, codes, Option, Result, ◌==◌, int_le, nat_lt, slice_index}
 use Rattle.terms.specs.declared.row.Row.TheVariants.{Constant}
 use Rattle.terms.specs.Words.{same_word, first_with}
 use Rattle.jcode.specs.declared.declaration_reader.DomainWord.{DomainWord}

@@ -1,5 +1,5 @@
 -- What a term can mention: the names that are declared, and the variables that NEW lists.
-use Rattle.std.specs.Prelude.{ℕ, ◌+◌, Bool, true, false, cond, ◌||◌, List, [], ◌∷◌, map, take, Some, None, Option, ◌==◌, nat_lt, slice_set}
+use Rattle.std.specs.Prelude.{ℕ, ◌+◌, Bool, false, cond, ◌||◌, List, [], ◌∷◌, map, take, Some, None, Option, ◌==◌, nat_lt, slice_set}
 use Rattle.terms.specs.Words.{same_word}
 use Rattle.jcode.specs.declared.scope.Scope.{Scope as CodeScope}
 use Rattle.jcode.specs.declared.statement.Listing.{Listing}

@@ -1,5 +1,5 @@
 -- Tables that are written one record after another.
-use Rattle.std.specs.Prelude.{ℕ, ◌+◌, List, [], ◌∷◌, ◌++◌, length, slice_set}
+use Rattle.std.specs.Prelude.{ℕ, ◌+◌, List, [], ◌∷◌, slice_set}
 
 -- the table with these records written from place i on
 abbrev pub put : {X : Type 0} → List X → ℕ → List X → List X

@@ -1,4 +1,4 @@
-use Rattle.std.proofs.Common.{◌≡◌, ◌<◌, length, sym, refl, arith}
+use Rattle.std.proofs.Common.{◌<◌, length, sym, refl, arith}
 use Rattle.jcode.proofs.Runs.{text_more, text_stop}
 use Rattle.jcode.proofs.cursor.text_run.Goals as goal
 

@@ -1,4 +1,4 @@
-use Rattle.std.proofs.Common.{sym, ◌∙◌, arith, rules}
+use Rattle.std.proofs.Common.{sym, ◌∙◌, rules}
 use Rattle.jcode.proofs.Values.{value_more, value_all}
 use Rattle.jcode.proofs.cursor.value_of.Goals as goal
 

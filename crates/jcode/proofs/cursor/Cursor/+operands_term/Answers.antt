@@ -1,4 +1,4 @@
-use Rattle.std.proofs.Common.{◌≡◌, length, sym, refl, ap, ◌∙◌, rules}
+use Rattle.std.proofs.Common.{length, refl, ◌∙◌, rules}
 use Rattle.jcode.specs.Scopes.{scope_of}
 use Rattle.jcode.proofs.Chains.{stopped_rows, refused_in}
 use Rattle.jcode.proofs.Stores.{operands_refused, close_refused, closed, term_refused, lead_refused, operand_refused, operand_read}

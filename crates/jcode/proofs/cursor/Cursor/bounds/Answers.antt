@@ -1,6 +1,6 @@
 use Rattle.std.proofs.Common.{w64, SFits, rules}
 use Rattle.std.proofs.lemmas.Int.{to_z-of_z}
-use Rattle.jcode.specs.ReadUnits.{read_bounds, read_high}
+use Rattle.jcode.specs.ReadUnits.{read_bounds}
 use Rattle.jcode.proofs.Chains.{reads_after, reads_then, refuses, exits}
 use Rattle.jcode.proofs.cursor.Cursor.bounds.Goals as goal
 

@@ -1,4 +1,3 @@
-use Rattle.std.proofs.Common.{rules}
 use Rattle.jcode.specs.ReadUnits.{read_declared}
 use Rattle.jcode.proofs.Chains.{reads_after, reads_before, refuses, refuses_before, exits}
 use Rattle.jcode.proofs.cursor.Cursor.declared.Goals as goal

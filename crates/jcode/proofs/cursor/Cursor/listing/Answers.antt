@@ -1,6 +1,5 @@
-use Rattle.std.proofs.Common.{sym, ◌∙◌}
 use Rattle.jcode.specs.Scopes.{scope_of}
-use Rattle.jcode.specs.ReadStatements.{read_listing, read_listed}
+use Rattle.jcode.specs.ReadStatements.{read_listing}
 use Rattle.jcode.proofs.Chains.{reads_after, refuses, exits}
 use Rattle.jcode.proofs.Listings.{listed_as}
 use Rattle.jcode.proofs.cursor.Cursor.listing.Goals as goal

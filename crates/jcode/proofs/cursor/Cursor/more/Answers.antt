@@ -1,10 +1,10 @@
-use Rattle.std.proofs.Common.{◌≡◌, ◌+◌, ◌-◌, ◌<◌, true, false, sym, refl, ap, ◌∙◌, arith, rules}
-use Rattle.jcode.specs.Scopes.{scope_of, listed_in, pushed}
+use Rattle.std.proofs.Common.{◌≡◌, ◌-◌, true, false, sym, refl, ap, ◌∙◌, arith, rules}
+use Rattle.jcode.specs.Scopes.{scope_of, listed_in}
 use Rattle.jcode.specs.Sentences.{listing_of}
 use Rattle.jcode.specs.ReadStatements.{goes_on, read_more}
 use Rattle.jcode.specs.Pieces.{got}
 use Rattle.jcode.proofs.Chains.{on, off, stopped}
-use Rattle.jcode.proofs.Listings.{Proper, push_proper, push_count, room_left, gap_refused, unseen_refused, unseen_read, list_closed, list_unclosed}
+use Rattle.jcode.proofs.Listings.{push_proper, push_count, room_left, gap_refused, unseen_refused, unseen_read, list_closed, list_unclosed}
 use Rattle.jcode.proofs.cursor.Cursor.more.Goals as goal
 
 pub loop-self-init : goal.loop-self-init

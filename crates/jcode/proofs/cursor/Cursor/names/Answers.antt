@@ -1,11 +1,7 @@
-use Rattle.std.proofs.Common.{◌≡◌, eqb, [], ◌∷◌, get_or, sym, refl, ap, ◌∙◌, rules}
-use Rattle.std.proofs.lemmas.Bool.{cond-true, cond-false, eq-eqb, ne_eqb}
-use Rattle.jcode.specs.Pieces.{got, and_then}
+use Rattle.std.proofs.Common.{sym, ◌∙◌, rules}
 use Rattle.jcode.specs.Scopes.{scope_of}
-use Rattle.jcode.specs.Sentences.{listing_of}
-use Rattle.jcode.specs.ReadTerms.{read_variable}
-use Rattle.jcode.specs.ReadStatements.{read_names, read_more, read_more_listed}
-use Rattle.jcode.proofs.Chains.{on, assoc, exits, refuses, told_in}
+use Rattle.jcode.specs.ReadStatements.{read_more_listed}
+use Rattle.jcode.proofs.Chains.{on, exits, refuses, told_in}
 use Rattle.jcode.proofs.Listings.{names_none, names_some}
 use Rattle.jcode.proofs.cursor.Cursor.names.Goals as goal
 

@@ -1,4 +1,3 @@
-use Rattle.std.proofs.Common.{rules}
 use Rattle.jcode.specs.ReadStatements.{read_repeated}
 use Rattle.jcode.proofs.Chains.{reads_after, refuses, exits}
 use Rattle.jcode.proofs.cursor.Cursor.repeated.Goals as goal

@@ -1,4 +1,3 @@
-use Rattle.std.proofs.Common.{rules}
 use Rattle.jcode.specs.ReadStatements.{read_single}
 use Rattle.jcode.proofs.Chains.{reads_after, reads_before, refuses, refuses_before, exits}
 use Rattle.jcode.proofs.cursor.Cursor.single.Goals as goal

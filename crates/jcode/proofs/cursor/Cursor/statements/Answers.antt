@@ -1,4 +1,4 @@
-use Rattle.std.proofs.Common.{◌≡◌, ◌^◌, ◌<◌, true, false, [], length, sym, refl, ap, ◌∙◌, arith, rules}
+use Rattle.std.proofs.Common.{◌≡◌, ◌^◌, ◌<◌, true, false, length, sym, ap, ◌∙◌, arith, rules}
 use Rattle.jcode.specs.Scopes.{scope_of}
 use Rattle.jcode.specs.ReadUnits.{goes_on}
 use Rattle.jcode.proofs.Chains.{stopped_rows}

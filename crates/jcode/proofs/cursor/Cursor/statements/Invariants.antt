@@ -1,4 +1,4 @@
-use Rattle.std.proofs.Common.{◌≡◌, ◌-◌, ◌≤◌, min, List, [], length}
+use Rattle.std.proofs.Common.{◌-◌, min, length}
 use Rattle.jcode.specs.Scopes.{scope_of}
 use Rattle.jcode.proofs.Statements.{SoFar}
 use Rattle.jcode.proofs.cursor.Cursor.statements.Given as goal
