@@ -1,5 +1,5 @@
 -- Terms of the right kinds have numbers of those kinds.
-use Rattle.std.specs.Prelude.{◌≡◌, ℕ, Bool, true, false, cond, not, ◌&&◌, ◌||◌, List, [], ◌∷◌, ℤ, Some, None, Option, int_le, int_lt, refl}
+use Rattle.std.specs.Prelude.{◌≡◌, ℕ, Bool, true, false, cond, List, [], ◌∷◌, ℤ, Some, None, Option, refl}
 use Rattle.std.proofs.Common.{subst, arith}
 use Rattle.std.proofs.lemmas.Bool.{and_parts}
 use Rattle.terms.specs.declared.operator.Operator.{Operator}
@@ -9,11 +9,10 @@ use Rattle.terms.specs.declared.kind.Kind.TheVariants.{Number, Truth}
 use Rattle.terms.specs.declared.kind.Sort.{Sort}
 use Rattle.terms.specs.declared.kind.Sort.TheVariants.{Of, Same}
 use Rattle.terms.specs.declared.row.Row.{Row}
-use Rattle.terms.specs.declared.row.Row.TheVariants.{Constant, Mention, Operator as Applied}
 use Rattle.terms.specs.Operators.{operands_of, result_of}
-use Rattle.terms.specs.Numbers.{truth, holds, odd, same_number, implied, computed}
+use Rattle.terms.specs.Numbers.{holds, computed}
 use Rattle.terms.specs.Terms.{numbered, value}
-use Rattle.reckoning.specs.Kinds.{is_truth, of_kind, of_sort, each, Chosen, Choice, alike, asked, is_kind, kinds_fit, kind_given, kinds, IsKinded}
+use Rattle.reckoning.specs.Kinds.{of_kind, of_sort, each, Chosen, Choice, alike, asked, is_kind, kinds_fit, kind_given, kinds, IsKinded}
 use Rattle.reckoning.specs.Evaluation.{Mentions, Kindly}
 use Rattle.reckoning.specs.Sorting.{result_sort}
 use Rattle.reckoning.proofs.Relating.{related, entry}

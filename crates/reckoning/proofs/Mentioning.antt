@@ -1,5 +1,5 @@
 -- What holds of every mention of a term.
-use Rattle.std.specs.Prelude.{◌≡◌, ℕ, List, [], ◌∷◌, ℤ, refl}
+use Rattle.std.specs.Prelude.{◌≡◌, List, [], ◌∷◌, ℤ, refl}
 use Rattle.terms.specs.declared.row.Row.{Row}
 use Rattle.terms.specs.declared.row.Row.TheVariants.{Constant, Mention, Operator as Applied}
 use Rattle.terms.specs.Terms.{numbered, value}
