@@ -7,9 +7,9 @@ use Rattle.reckoning.specs.declared.mark.Mark.{Mark}
 use Rattle.reckoning.specs.Kinds.{kinds}
 use Rattle.reckoning.specs.Reckonings.{Meaning, Lawful}
 use Rattle.reckoning.specs.Evaluation.{marks_by, mark_of, Mentions, Kindly, Covered, Covering}
-use Rattle.reckoning.specs.Relating.{related, entry}
-use Rattle.reckoning.specs.Kinding.{Fine, a_number, given_kind}
-use Rattle.reckoning.specs.Mentioning.{mentions_tail}
+use Rattle.reckoning.proofs.Relating.{related, entry}
+use Rattle.reckoning.proofs.Kinding.{Fine, a_number, given_kind}
+use Rattle.reckoning.proofs.Mentioning.{mentions_tail}
 
 module _ {M : Type 0} (covers : Mark → ℤ → Type 0) (r : Meaning) (laws : Lawful covers r) (found : M → Option Mark) where
   found_covers : (o : Option Mark) (n : ℤ) → ((m : Mark) → o ≡ Some m → covers m n) → covers (unwrap_or o r.anything) n

@@ -1,4 +1,7 @@
 pub mod Stacking
+pub mod Relating
+pub mod Mentioning
+pub mod Kinding
 pub mod Covering
 pub mod Roomy
 pub mod Pointing

@@ -14,9 +14,9 @@ use Rattle.reckoning.specs.Kinds.{of_sort, each, Chosen, Choice, kinds}
 use Rattle.reckoning.specs.Points.{is_point, any_mark, point_or, point, point_number, point_fits, point_applied, points}
 use Rattle.reckoning.specs.Evaluation.{marks_by, evaluated, Mentions, Kindly}
 use Rattle.reckoning.specs.Exactness.{Spans, Exact}
-use Rattle.reckoning.specs.Relating.{related, entry}
-use Rattle.reckoning.specs.Kinding.{Fine, a_number, given_kind}
-use Rattle.reckoning.specs.Mentioning.{mentions_tail}
+use Rattle.reckoning.proofs.Relating.{related, entry}
+use Rattle.reckoning.proofs.Kinding.{Fine, a_number, given_kind}
+use Rattle.reckoning.proofs.Mentioning.{mentions_tail}
 use Rattle.reckoning.specs.Pointwise.{Holds, same_result}
 
 -- a mark that is the point of a number in the span

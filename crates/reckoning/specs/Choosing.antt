@@ -9,7 +9,7 @@ use Rattle.terms.specs.Numbers.{computed, truth}
 use Rattle.reckoning.specs.declared.mark.Mark.{Mark}
 use Rattle.reckoning.specs.declared.decision.Decision.{Decision}
 use Rattle.reckoning.specs.declared.decision.Decision.TheVariants.{Yes, No, Unknown}
-use Rattle.reckoning.specs.Kinds.{of_sort, operands, Chosen, Choice}
+use Rattle.reckoning.specs.Kinds.{of_sort, Chosen, Choice}
 use Rattle.reckoning.specs.Ranges.{ranged, truth_range}
 use Rattle.reckoning.specs.Hulls.{Holds, Reached, Hull}
 use Rattle.reckoning.specs.Telling.{Told, Pairs, At, Always}

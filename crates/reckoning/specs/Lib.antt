@@ -10,9 +10,7 @@ pub mod Exactness
 pub mod Spanning
 pub mod Pointwise
 pub mod Rangewise
-pub mod Kinding
-pub mod Relating
-pub mod Mentioning
+pub mod Sorting
 pub mod Comparing
 pub mod Telling
 pub mod Hulling

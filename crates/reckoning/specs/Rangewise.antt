@@ -18,7 +18,7 @@ use Rattle.reckoning.specs.Reckonings.{Lawful}
 use Rattle.reckoning.specs.Points.{any_mark}
 use Rattle.reckoning.specs.Ranges.{is_range, within, range_holds, between, ranged, range_bounded, unknown_of, range_fits, range_computed, range_applied, overlap, range_met, ranges}
 use Rattle.reckoning.specs.Hulls.{bounded, Holds, Reached, Hull, Tightly}
-use Rattle.reckoning.specs.Kinding.{result_sort}
+use Rattle.reckoning.specs.Sorting.{result_sort}
 use Rattle.reckoning.specs.Comparing.{in_range, holds_in, is_most}
 use Rattle.reckoning.specs.Hulling.{computed_hull}
 

@@ -47,11 +47,11 @@ fn read_row<M: Copy, N: Mentions<M>, R: Reckoning>(
 ) -> usize
     requires room { 0 < top }
     requires inside { top ≤ length stack.old }
-    requires any { any ≡ (meaning reckoning.now).anything }
+    requires any { any ≡ (R.meaning reckoning.now).anything }
     ensures low { top ≤ result + 1 }
     ensures high { result < length stack.old }
     ensures kept { take (top - 1) stack.new ≡ take (top - 1) stack.old }
-    ensures stack { drop result stack.new ≡ onto (marks_by (meaning reckoning.now) (found mentions.now)) row (drop top stack.old) }
+    ensures stack { drop result stack.new ≡ onto (marks_by (R.meaning reckoning.now) (N.found mentions.now)) row (drop top stack.old) }
 {
     match row {
         Row::Constant(number) => {
@@ -81,10 +81,10 @@ pub fn evaluate<M: Copy, N: Mentions<M>, R: Reckoning>(
     rows: &[Row<M>],
     working: &mut [Mark],
 ) -> Mark
-    ensures mark { result ≡ evaluated (meaning reckoning.now) (found mentions.now) rows.now (length working.old) }
+    ensures mark { result ≡ evaluated (R.meaning reckoning.now) (N.found mentions.now) rows.now (length working.old) }
     ensures others { take (length working.old - length rows.now) working.new ≡ take (length working.old - length rows.now) working.old }
     ensures unread { length working.old < length rows.now → working.new ≡ working.old }
-    ensures covering { Covering (covers reckoning.now) (found mentions.now) rows.now result }
+    ensures covering { Covering (R.covers reckoning.now) (N.found mentions.now) rows.now result }
 {
     let any = reckoning.any();
     if working.len() < rows.len() {

@@ -122,11 +122,11 @@ pub fn number_of<M: Copy, N: Mentions<M>>(
     rows: &[Row<M>],
     working: &mut [Mark],
 ) -> Option<i64>
-    ensures number { result ≡ point_number (evaluated points (found mentions.now) rows.now (length working.old)) }
+    ensures number { result ≡ point_number (evaluated points (N.found mentions.now) rows.now (length working.old)) }
     ensures others { take (length working.old - length rows.now) working.new ≡ take (length working.old - length rows.now) working.old }
     ensures unread { length working.old < length rows.now → working.new ≡ working.old }
-    ensures exact { length rows.now ≤ length working.old → Exact (found mentions.now) rows.now result }
-    ensures right { Right (found mentions.now) rows.now result }
+    ensures exact { length rows.now ≤ length working.old → Exact (N.found mentions.now) rows.now result }
+    ensures right { Right (N.found mentions.now) rows.now result }
 {
     number_at(evaluate(&Points, mentions, rows, working))
 }

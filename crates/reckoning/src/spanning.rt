@@ -16,7 +16,7 @@ pub fn stays_in_span<M: Copy, N: Mentions<M>>(
     rows: &[Row<M>],
     working: &mut [Mark],
 ) -> bool
-    ensures result { result ≡ (nat_le (length rows.now) (length working.old) && ranged_rows (found mentions.now) rows.now) }
+    ensures result { result ≡ (nat_le (length rows.now) (length working.old) && ranged_rows (N.found mentions.now) rows.now) }
     ensures others { take (length working.old - length rows.now) working.new ≡ take (length working.old - length rows.now) working.old }
     ensures unread { length working.old < length rows.now → working.new ≡ working.old }
 {

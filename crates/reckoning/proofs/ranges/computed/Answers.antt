@@ -36,7 +36,7 @@ returns-in-Mini c =
     let bl : SFits w64 c.args.b.low = search rules in
     let bh : SFits w64 c.args.b.high = search rules in
     subst (λ o. c.range_or_any-in-Mini.result ≡ range_computed o c.args.a c.args.b c.args.c) (sym c.in-Mini.is)
-    (c.range_or_any-in-Mini.ensures ∙ ap₂ ranged (given int_min _ _ _ al bl (record { sfits = c.min.type-inv }) c.min.ensures.value) (given int_min _ _ _ ah bh (record { sfits = c.min-in-Mini.type-inv }) c.min-in-Mini.ensures.value))
+    (c.range_or_any-in-Mini.ensures ∙ ap₂ ranged (given int_min _ _ _ al bl (record { sfits = c.min.type_inv }) c.min.ensures.value) (given int_min _ _ _ ah bh (record { sfits = c.min-in-Mini.type_inv }) c.min-in-Mini.ensures.value))
 
 pub returns-in-Maxi : goal.returns-in-Maxi
 returns-in-Maxi c =
@@ -45,4 +45,4 @@ returns-in-Maxi c =
     let bl : SFits w64 c.args.b.low = search rules in
     let bh : SFits w64 c.args.b.high = search rules in
     subst (λ o. c.range_or_any-in-Maxi.result ≡ range_computed o c.args.a c.args.b c.args.c) (sym c.in-Maxi.is)
-    (c.range_or_any-in-Maxi.ensures ∙ ap₂ ranged (given int_max _ _ _ al bl (record { sfits = c.max.type-inv }) c.max.ensures.value) (given int_max _ _ _ ah bh (record { sfits = c.max-in-Maxi.type-inv }) c.max-in-Maxi.ensures.value))
+    (c.range_or_any-in-Maxi.ensures ∙ ap₂ ranged (given int_max _ _ _ al bl (record { sfits = c.max.type_inv }) c.max.ensures.value) (given int_max _ _ _ ah bh (record { sfits = c.max-in-Maxi.type_inv }) c.max-in-Maxi.ensures.value))

@@ -10,4 +10,4 @@ returns c =
     let ah : SFits w64 c.args.a.high = search rules in
     let bl : SFits w64 c.args.b.low = search rules in
     let bh : SFits w64 c.args.b.high = search rules in
-    c.range_or_any.ensures ∙ ap₂ ranged (given int_min _ _ _ al bl (record { sfits = c.min.type-inv }) c.min.ensures.value) (given int_max _ _ _ ah bh (record { sfits = c.max.type-inv }) c.max.ensures.value)
+    c.range_or_any.ensures ∙ ap₂ ranged (given int_min _ _ _ al bl (record { sfits = c.min.type_inv }) c.min.ensures.value) (given int_max _ _ _ ah bh (record { sfits = c.max.type_inv }) c.max.ensures.value)

@@ -21,10 +21,10 @@ returns c =
     let eq = through _ _ _ al bh c.product-q.ensures in
     let er = through _ _ _ ah bl c.product-r.ensures in
     let es = through _ _ _ ah bh c.product-s.ensures in
-    let fp : SFits w128 c.product-p.result = record { sfits = c.product-p.type-inv } in
-    let fq : SFits w128 c.product-q.result = record { sfits = c.product-q.type-inv } in
-    let fr : SFits w128 c.product-r.result = record { sfits = c.product-r.type-inv } in
-    let fs : SFits w128 c.product-s.result = record { sfits = c.product-s.type-inv } in
-    let low = four least4 _ _ _ _ _ fp fq fr fs (record { sfits = c.least.type-inv }) c.least.ensures in
-    let high = four greatest4 _ _ _ _ _ fp fq fr fs (record { sfits = c.greatest.type-inv }) c.greatest.ensures in
+    let fp : SFits w128 c.product-p.result = record { sfits = c.product-p.type_inv } in
+    let fq : SFits w128 c.product-q.result = record { sfits = c.product-q.type_inv } in
+    let fr : SFits w128 c.product-r.result = record { sfits = c.product-r.type_inv } in
+    let fs : SFits w128 c.product-s.result = record { sfits = c.product-s.type_inv } in
+    let low = four least4 _ _ _ _ _ fp fq fr fs (record { sfits = c.least.type_inv }) c.least.ensures in
+    let high = four greatest4 _ _ _ _ _ fp fq fr fs (record { sfits = c.greatest.type_inv }) c.greatest.ensures in
     c.range_or_any.ensures ∙ ap₂ ranged low high ∙ (λ i. ranged (least4 (ep i) (eq i) (er i) (es i)) (greatest4 (ep i) (eq i) (er i) (es i)))

@@ -1,5 +1,5 @@
 -- Terms of the right kinds have numbers of those kinds.
-use Rattle.std.specs.Prelude.{◌≡◌, ℕ, Bool, true, false, cond, not, ◌&&◌, ◌||◌, List, [], ◌∷◌, ℤ, Some, None, Option, int_le, int_lt, refl}
+use Rattle.std.specs.Prelude.{◌≡◌, ℕ, Bool, true, false, cond, List, [], ◌∷◌, ℤ, Some, None, Option, refl}
 use Rattle.std.proofs.Common.{subst, arith}
 use Rattle.std.proofs.lemmas.Bool.{and_parts}
 use Rattle.terms.specs.declared.operator.Operator.{Operator}
@@ -9,14 +9,14 @@ use Rattle.terms.specs.declared.kind.Kind.TheVariants.{Number, Truth}
 use Rattle.terms.specs.declared.kind.Sort.{Sort}
 use Rattle.terms.specs.declared.kind.Sort.TheVariants.{Of, Same}
 use Rattle.terms.specs.declared.row.Row.{Row}
-use Rattle.terms.specs.declared.row.Row.TheVariants.{Constant, Mention, Operator as Applied}
 use Rattle.terms.specs.Operators.{operands_of, result_of}
-use Rattle.terms.specs.Numbers.{truth, holds, odd, same_number, implied, computed}
+use Rattle.terms.specs.Numbers.{holds, computed}
 use Rattle.terms.specs.Terms.{numbered, value}
-use Rattle.reckoning.specs.Kinds.{is_truth, of_kind, of_sort, each, Chosen, Choice, alike, asked, is_kind, kinds_fit, kind_given, kinds, IsKinded}
+use Rattle.reckoning.specs.Kinds.{of_kind, of_sort, each, Chosen, Choice, alike, asked, is_kind, kinds_fit, kind_given, kinds, IsKinded}
 use Rattle.reckoning.specs.Evaluation.{Mentions, Kindly}
-use Rattle.reckoning.specs.Relating.{related, entry}
-use Rattle.reckoning.specs.Mentioning.{mentions_tail}
+use Rattle.reckoning.specs.Sorting.{result_sort}
+use Rattle.reckoning.proofs.Relating.{related, entry}
+use Rattle.reckoning.proofs.Mentioning.{mentions_tail}
 
 -- where there is a kind, the number is of it and is from the mark
 abbrev pub Fine : {X : Type 0} → (X → ℤ → Type 0) → Option Kind → X → ℤ → Type 0
@@ -30,38 +30,6 @@ of_alike Number Number n e h = refl
 of_alike Number Truth n e h = clash e
 of_alike Truth Number n e h = refl
 of_alike Truth Truth n e h = h
-
-truth_is : (b : Bool) → is_truth (truth b) ≡ true
-truth_is true = refl
-truth_is false = refl
-
--- what an operator gives is of its result's sort, whatever it is given
-pub result_sort : (o : Operator) (x y z : ℤ) → of_sort (result_of o) (computed o x y z) ≡ true
-result_sort Addi x y z = refl
-result_sort Subi x y z = refl
-result_sort Negi x y z = refl
-result_sort Mul x y z = refl
-result_sort Divi x y z = refl
-result_sort Mod x y z = refl
-result_sort Odd x y z = truth_is (odd x)
-result_sort Gei x y z = truth_is (int_le y x)
-result_sort Lei x y z = truth_is (int_le x y)
-result_sort Gti x y z = truth_is (int_lt y x)
-result_sort Lti x y z = truth_is (int_lt x y)
-result_sort Mini x y z = refl
-result_sort Maxi x y z = refl
-result_sort True x y z = refl
-result_sort False x y z = refl
-result_sort And x y z = truth_is (holds x && holds y)
-result_sort Or x y z = truth_is (holds x || holds y)
-result_sort Not x y z = truth_is (not (holds x))
-result_sort Implies x y z = truth_is (implied x y)
-result_sort Impliedby x y z = truth_is (implied y x)
-result_sort Notimplies x y z = truth_is (not (implied x y))
-result_sort Notimpliedby x y z = truth_is (not (implied y x))
-result_sort Equal x y z = truth_is (same_number x y)
-result_sort Notequal x y z = truth_is (not (same_number x y))
-result_sort If x y z = refl
 
 module _ {X : Type 0} (from : X → ℤ → Type 0) where
   of_kind_lem : (k : Option Kind) (j : Kind) (m : X) (n : ℤ) → is_kind k j ≡ true → Fine from k m n → (of_kind j n ≡ true) × from m n

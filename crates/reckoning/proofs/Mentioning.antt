@@ -1,10 +1,10 @@
 -- What holds of every mention of a term.
-use Rattle.std.specs.Prelude.{◌≡◌, ℕ, List, [], ◌∷◌, ℤ, refl}
+use Rattle.std.specs.Prelude.{◌≡◌, List, [], ◌∷◌, ℤ, refl}
 use Rattle.terms.specs.declared.row.Row.{Row}
 use Rattle.terms.specs.declared.row.Row.TheVariants.{Constant, Mention, Operator as Applied}
 use Rattle.terms.specs.Terms.{numbered, value}
 use Rattle.reckoning.specs.Evaluation.{Mentions}
-use Rattle.reckoning.specs.Relating.{related}
+use Rattle.reckoning.proofs.Relating.{related}
 
 module _ {M : Type 0} (P : M → Type 0) where
   pub mentions_tail : (r : Row M) (rs : List (Row M)) → Mentions P (r ∷ rs) → Mentions P rs
