@@ -15,6 +15,7 @@ use jcode::variable::{Domain, Variable};
 use std::alloc::{AllocError, Global};
 use std::io;
 use std::io::{Read, Write};
+use std::process::ExitCode;
 use terms::row::Row;
 
 const INPUT_LIMIT: usize = 65_536;
@@ -103,14 +104,14 @@ fn run(rt: &HostRuntime) -> Result<(), Fault> {
     Ok(())
 }
 
-fn main(rt: HostRuntime) -> anyhow::Result<()> {
+fn main(rt: HostRuntime) -> anyhow::Result<ExitCode> {
     match run(&rt) {
-        Ok(()) => Ok(()),
+        Ok(()) => Ok(ExitCode::SUCCESS),
         Err(Fault::Refused(fault)) => {
             let number = fault.refusal.number();
             let place = fault.place;
             println!(rt; "refused {number} {place}")?;
-            Err(anyhow!("refused"))
+            Ok(ExitCode::FAILURE)
         }
         Err(Fault::Memory(_)) => Err(anyhow!("out of memory")),
         Err(Fault::Device(error)) => Err(error.into()),

@@ -350,10 +350,10 @@ fn refuses(
     place: usize,
 ) -> Result<(), Fail> {
     match attempt(bytes, start, lengths) {
-        Ok(_) => Err(Fail::new("it was read")),
+        Ok(_) => Err(Fail::new(format_args!("it was read: {bytes:?}"))),
         Err(fault) => {
-            assert_eq!(rt; fault.refusal.number(), number);
-            assert_eq!(rt; fault.place, place);
+            assert_eq!(rt; fault.refusal.number(), number, "{bytes:?}");
+            assert_eq!(rt; fault.place, place, "{bytes:?}");
             Ok(())
         }
     }
@@ -367,28 +367,28 @@ fn reads(
 ) -> Result<(), Fail> {
     match attempt(bytes, 0, lengths) {
         Ok(outline) => {
-            assert_eq!(rt; outline.variables, counts[0]);
-            assert_eq!(rt; outline.statements, counts[1]);
-            assert_eq!(rt; outline.rows, counts[2]);
-            assert_eq!(rt; outline.next, bytes.len());
+            assert_eq!(rt; outline.variables, counts[0], "{bytes:?}");
+            assert_eq!(rt; outline.statements, counts[1], "{bytes:?}");
+            assert_eq!(rt; outline.rows, counts[2], "{bytes:?}");
+            assert_eq!(rt; outline.next, bytes.len(), "{bytes:?}");
             Ok(())
         }
-        Err(_) => Err(Fail::new("it was refused")),
+        Err(_) => Err(Fail::new(format_args!("it was refused: {bytes:?}"))),
     }
 }
 
 #[test]
 fn each_refusal_has_its_byte(rt: HostRuntime) -> Result<(), Fail> {
-    for (i, (bytes, number, place)) in REFUSED.iter().enumerate() {
-        refuses(&rt, bytes, 0, AMPLE, *number, *place).note(i)?;
+    for (bytes, number, place) in REFUSED.iter() {
+        refuses(&rt, bytes, 0, AMPLE, *number, *place)?;
     }
     Ok(())
 }
 
 #[test]
 fn each_form_is_read(rt: HostRuntime) -> Result<(), Fail> {
-    for (i, (bytes, counts)) in READ.iter().enumerate() {
-        reads(&rt, bytes, AMPLE, *counts).note(i)?;
+    for (bytes, counts) in READ.iter() {
+        reads(&rt, bytes, AMPLE, *counts)?;
     }
     Ok(())
 }
@@ -491,8 +491,8 @@ fn what_the_tables_hold(rt: HostRuntime) -> Result<(), Fail> {
     let Ok(outline) = read(LIMIT, 0, &mut variables, &mut statements, &mut rows) else {
         return Err(Fail::new("it was refused"));
     };
-    assert!(rt; outline.name.of(LIMIT) == b"Limit");
-    assert!(rt; variables[0].name.of(LIMIT) == b"p");
+    assert!(rt; outline.name.of(LIMIT) == b"Limit".as_slice());
+    assert!(rt; variables[0].name.of(LIMIT) == b"p".as_slice());
     assert!(rt; matches!(variables[0].domain, Domain::Subrange { low: 0, high: 9 }));
     assert!(rt; variables[1].name.start == 77);
     assert!(rt; matches!(statements[3], Statement::Assign { variable: 0, .. }));
