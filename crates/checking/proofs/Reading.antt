@@ -1,14 +1,13 @@
 -- The decision about tables is right.
-use Rattle.std.proofs.Common.{◌≡◌, ℕ, ◌≤◌, Bool, true, ◌&&◌, leb, List, length, Some, sym, refl, ap, ◌∙◌, arith}
+use Rattle.std.proofs.Common.{◌≡◌, ℕ, true, leb, List, length, Some, arith}
 use Rattle.std.proofs.lemmas.Bool.{and_parts, and_from, leb-true, le-leb}
 use Rattle.jcode.specs.declared.span.Span.{Span}
 use Rattle.jcode.specs.ReadTerms.{row_limit}
 use Rattle.jcode.specs.ReadUnits.{Tables, variable_limit, statement_limit}
 use Rattle.checking.specs.Layouts.{fills_from}
-use Rattle.checking.specs.Pieces.{is_name, is_declaration, same_name}
-use Rattle.checking.specs.Sentences.{keeps}
-use Rattle.checking.specs.Tests.{all_of, apart}
-use Rattle.checking.specs.Readable.{Readable, sentences_in, few_enough, well_named, well_laid, readable}
+use Rattle.checking.specs.Pieces.{is_name, is_declaration}
+use Rattle.checking.specs.Tests.{all_of}
+use Rattle.checking.specs.Readable.{Readable, few_enough, well_named, readable}
 use Rattle.checking.proofs.Laying.{laid_all_lem, again_all}
 
 module _ (bytes : List ℕ) (name : Span) (t : Tables) where

@@ -1,5 +1,5 @@
 -- A term has no more rows than its table.
-use Rattle.std.proofs.Common.{◌-◌, ◌≤◌, min, List, length, take, drop, arith}
+use Rattle.std.proofs.Common.{◌≤◌, List, length, arith}
 use Rattle.std.proofs.lemmas.List.{length-take, length-drop}
 use Rattle.jcode.specs.declared.statement.Term.{Term}
 use Rattle.jcode.specs.ReadTerms.{UnitRow}

@@ -1,10 +1,8 @@
 -- What is found in the tables is so of the unit that they hold.
-use Rattle.std.proofs.Common.{◌≡◌, ℕ, ◌<◌, Bool, false, ◌⊎◌, List, [], ◌∷◌, map, length, get_or, Some, None, Ok, Option, sym, refl, ap, ◌∙◌, subst, ap₂, ⊎_elim, arith}
+use Rattle.std.proofs.Common.{◌≡◌, ℕ, ◌<◌, Bool, List, [], ◌∷◌, map, length, get_or, Some, None, Ok, Option, sym, refl, ap, ◌∙◌, subst, ⊎_elim, arith}
 use Rattle.flow.specs.declared.step.Step.{Step}
 use Rattle.flow.specs.Counts.{TooMany}
 use Rattle.flow.specs.Least.{Least}
-use Rattle.flow.specs.Labels.{Mislabelled}
-use Rattle.flow.specs.Orders.{Misplaced}
 use Rattle.flow.specs.Steps.{OnCircle}
 use Rattle.flow.specs.Numbers.{paths}
 use Rattle.jcode.specs.declared.refusal.Refusal.TheVariants.{Kind, Range, Circle, Paths}
@@ -14,7 +12,7 @@ use Rattle.jcode.specs.declared.variable.Variable.{Variable}
 use Rattle.jcode.specs.Bytes.{slice}
 use Rattle.jcode.specs.ReadUnits.{Tables}
 use Rattle.jcode.specs.Sentences.{Sentence, Hang}
-use Rattle.jcode.specs.Units.{Declared, declared_in, retold, sentence_in, unit_of}
+use Rattle.jcode.specs.Units.{Declared, declared_in, retold, unit_of}
 use Rattle.checking.specs.Breaks.{steps_of, BreaksRule, ruled}
 use Rattle.checking.specs.Readable.{sentences_in}
 use Rattle.checking.specs.Rules.{kinds_kept, span_kept, Failing}

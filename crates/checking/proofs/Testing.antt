@@ -1,7 +1,6 @@
 -- A test of every element, taken one more at a time from the front: what is left decides.
-use Rattle.std.proofs.Common.{◌≡◌, ℕ, ◌+◌, ◌<◌, ◌≤◌, Bool, true, false, not, ◌&&◌, List, ◌∷◌, length, get_or, drop, sym, ap, ◌∙◌}
-use Rattle.std.proofs.lemmas.List.{at_drop_more, at_drop_all}
-use Rattle.checking.specs.Tests.{all_of, apart}
+use Rattle.std.proofs.Common.{◌≡◌, ℕ, ◌+◌, ◌<◌, Bool, ◌&&◌, List, ◌∷◌, length, get_or, drop, sym, ap, ◌∙◌}
+use Rattle.std.proofs.lemmas.List.{at_drop_more}
 
 module _ {X : Type 0} (F : List X → Bool) (p : X → List X → Bool) (step : (x : X) (xs : List X) → F (x ∷ xs) ≡ (p x xs && F xs)) (xs : List X) (i : ℕ) where
   pub here_at : (d : X) (b : Bool) → i < length xs → b ≡ p (get_or xs i d) (drop (i + 1) xs) → F (drop i xs) ≡ (b && F (drop (i + 1) xs))

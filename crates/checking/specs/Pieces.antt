@@ -3,7 +3,6 @@ use Rattle.std.specs.Prelude.{ℕ, ◌+◌, Bool, true, ◌&&◌, ltb, List, len
 use Rattle.terms.specs.declared.row.Row.TheVariants.{Constant, Mention as Mentioned, Operator as Applied}
 use Rattle.terms.specs.Numbers.{in_span}
 use Rattle.terms.specs.Words.{same_word}
-use Rattle.jcode.specs.declared.mention.Mention.{Mention}
 use Rattle.jcode.specs.declared.mention.Stage.{Stage}
 use Rattle.jcode.specs.declared.mention.Stage.TheVariants.{Current, New}
 use Rattle.jcode.specs.declared.span.Span.{Span}

@@ -1,5 +1,5 @@
 -- What the declared types say of variables: the kinds and the bounds of their values and shadows.
-use Rattle.std.specs.Prelude.{ℕ, List, map, ℤ, pos, negsuc, Some, None, Option}
+use Rattle.std.specs.Prelude.{List, map, pos, negsuc, Some, Option}
 use Rattle.std.specs.Option.{option_map}
 use Rattle.std.specs.List.{slice_get}
 use Rattle.terms.specs.declared.kind.Kind.{Kind}
@@ -10,7 +10,7 @@ use Rattle.jcode.specs.declared.mention.Mention.{Mention}
 use Rattle.jcode.specs.declared.variable.Domain.{Domain}
 use Rattle.jcode.specs.declared.variable.Domain.TheVariants.{Integer, Boolean, Subrange}
 use Rattle.jcode.specs.declared.variable.Variable.{Variable}
-use Rattle.jcode.specs.Units.{Declared, JUnit}
+use Rattle.jcode.specs.Units.{JUnit}
 use Rattle.reckoning.specs.declared.mark.Mark.{Mark}
 use Rattle.reckoning.specs.Ranges.{between}
 

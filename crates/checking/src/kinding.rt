@@ -112,7 +112,7 @@ pub fn kind_of<M: Copy, K: Kinds<M>>(
     rows: &[Row<M>],
     stack: &mut [Option<Kind>],
 ) -> Option<Kind>
-    ensures { result ≡ (if nat_le (length rows.now) (length stack.old) then kind_of (kind_at mentions.now) rows.now else None) }
+    ensures { result ≡ (if nat_le (length rows.now) (length stack.old) then kind_of (K.kind_at mentions.now) rows.now else None) }
 {
     outcome(&Kinding { mentions }, rows, stack)
 }

@@ -12,7 +12,7 @@ pub(super) trait Test<T> {
 
 // Whether every element passes.
 pub(super) fn all_pass<T: Copy, P: Test<T>>(test: &P, xs: &[T]) -> bool
-    ensures { result ≡ all_of (passes test.now) xs.now }
+    ensures { result ≡ all_of (P.passes test.now) xs.now }
 {
     for i in 0..xs.len() {
         if !test.test(xs[i]) {
@@ -45,7 +45,7 @@ impl<'a, T: Copy, L: Likeness<T>> Test<T> for Unlike<'a, T, L> {
 
 // Whether no two elements are alike.
 pub(super) fn are_apart<T: Copy, L: Likeness<T>>(likeness: &L, xs: &[T]) -> bool
-    ensures { result ≡ apart (alike likeness.now) xs.now }
+    ensures { result ≡ apart (L.alike likeness.now) xs.now }
 {
     for i in 0..xs.len() {
         let one = xs[i];

@@ -1,4 +1,4 @@
-use Rattle.std.proofs.Common.{◌≡◌, ◌&&◌, length, drop, sym, ap, ◌∙◌, ap₂}
+use Rattle.std.proofs.Common.{◌&&◌, length, sym, ap, ◌∙◌}
 use Rattle.std.proofs.lemmas.List.{take_rest}
 use Rattle.std.proofs.lemmas.Bool.{le-leb}
 use Rattle.checking.specs.Nesting.{single, writes_term}

@@ -1,4 +1,4 @@
-use Rattle.std.proofs.Common.{◌≡◌, false, refl, ◌∙◌, arith}
+use Rattle.std.proofs.Common.{false, refl, arith}
 use Rattle.jcode.specs.Units.{sentence_in}
 use Rattle.checking.specs.Rules.{span_kept}
 use Rattle.checking.specs.Types.{domains_in}
