@@ -1,5 +1,7 @@
 -- The operator table: each operator's word, the kinds of its operands and the kind of its result. Reader, kind check and evaluator all go by it.
-use Rattle.std.specs.Prelude.{ℕ, List, [], ◌∷◌, length, codes, Option}
+use Rattle.std.specs.Prelude.{ℕ, Bool, true, false, ◌&&◌, List, [], ◌∷◌, length, codes, Option}
+use Rattle.std.specs.List.{slice_get}
+use Rattle.std.specs.Option.{option_map}
 use Rattle.terms.specs.declared.operator.Operator.{Operator}
 use Rattle.terms.specs.declared.operator.Operator.TheVariants.{Addi, Subi, Negi, Mul, Divi, Mod, Odd, Gei, Lei, Gti, Lti, Mini, Maxi, True, False, And, Or, Not, Implies, Impliedby, Notimplies, Notimpliedby, Equal, Notequal, If}
 use Rattle.terms.specs.declared.kind.Kind.TheVariants.{Number, Truth}
@@ -96,6 +98,24 @@ operands_of o = sorts (signature_of o).operands
 
 abbrev pub result_of : Operator → Sort
 result_of o = (signature_of o).result
+
+-- an operand, with the sort that stands at its place
+abbrev with_sort : {X : Type 0} → List Sort → ℕ → X → Option (Sort × X)
+with_sort ss k x = option_map (λ s. (s, x)) (slice_get ss k)
+
+-- of the three that an operator is given, each of its own operands with its sort
+abbrev pub sorted_by : {X : Type 0} → List Sort → X → X → X → List (Option (Sort × X))
+sorted_by ss a b c = with_sort ss 0 a ∷ with_sort ss 1 b ∷ with_sort ss 2 c ∷ []
+
+-- each operand passes the test of its sort
+abbrev pub each : {X : Type 0} → (Sort → X → Bool) → List Sort → List X → Bool
+each test [] xs = true
+each test (s ∷ ss) [] = false
+each test (s ∷ ss) (x ∷ xs) = test s x && each test ss xs
+
+-- of the three that an operator is given, its own operands pass the test of their sorts
+abbrev pub operands : {X : Type 0} → (Sort → X → Bool) → Operator → X → X → X → Bool
+operands test o a b c = each test (operands_of o) (a ∷ b ∷ c ∷ [])
 
 -- how many operands
 abbrev pub arity : Operator → ℕ

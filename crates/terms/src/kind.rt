@@ -1,13 +1,13 @@
 // Kinds: what a term denotes.
 
-#[derive(Clone, Copy, PartialEq, Eq)]
+#[derive(Clone, Copy, Debug, PartialEq, Eq)]
 pub enum Kind {
     Number,
     Truth,
 }
 
 // What an operand or a result is: of one kind, or of whichever kind all `Same` places of the operator share.
-#[derive(Clone, Copy, PartialEq, Eq)]
+#[derive(Clone, Copy, Debug, PartialEq, Eq)]
 pub enum Sort {
     Of(Kind),
     Same,

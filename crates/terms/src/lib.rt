@@ -3,7 +3,9 @@
 
 pub mod fold;
 pub mod kind;
+pub mod mentions;
 pub mod number;
 pub mod operator;
+pub mod part;
 pub mod row;
 pub mod word;

@@ -1,22 +1,25 @@
 // Whole numbers: exact arithmetic on 64 bits, and the span, outside of which no term may go.
 
 ghost use Rattle.std.specs.Prelude.{◌≡◌, ◌*ℤ◌};
-ghost use Rattle.terms.specs.Numbers.{spanned, quotient as quotient_of, remainder as remainder_of};
+ghost use Rattle.terms.specs.Numbers.{spanned, in_span as spans, quotient as quotient_of, remainder as remainder_of};
 
 // The least and the greatest number of the span.
 pub const LEAST: i64 = -2_000_000_000;
 
 pub const GREATEST: i64 = 2_000_000_000;
 
+// Whether the number lies in the span.
+pub fn spans(number: i64) -> bool
+    ensures { result ≡ spans number }
+{
+    (LEAST..=GREATEST).contains(&number)
+}
+
 // The number where it lies in the span.
 pub fn in_span(number: i128) -> Option<i64>
     ensures { result ≡ spanned number }
 {
-    if number < LEAST as i128 || number > GREATEST as i128 {
-        None
-    } else {
-        Some(number as i64)
-    }
+    i64::try_from(number).ok().filter(|&number| spans(number))
 }
 
 pub fn product(a: i64, b: i64) -> i128

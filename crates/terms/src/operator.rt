@@ -1,14 +1,14 @@
 // The 25 operators: one constant table of their words and kinds, and what each computes.
 
 ghost use Rattle.std.specs.Prelude.{◌≡◌, pos};
-ghost use Rattle.terms.specs.Operators.{operator_of, signature_of, result_of, arity as arity_of, truths};
+ghost use Rattle.terms.specs.Operators.{operator_of, signature_of, operands_of, result_of, arity as arity_of, sorted_by, truths};
 ghost use Rattle.terms.specs.Numbers.{spanned, computed, truth};
 
 use super::kind::{Kind, Sort};
 use super::number::{in_span, product, quotient, remainder};
 use super::word::{Entry, lookup};
 
-#[derive(Clone, Copy)]
+#[derive(Clone, Copy, Debug, PartialEq, Eq)]
 pub enum Operator {
     Addi,
     Subi,
@@ -38,7 +38,7 @@ pub enum Operator {
 }
 
 // What an operator takes, in written order.
-#[derive(Clone, Copy)]
+#[derive(Clone, Copy, Debug, PartialEq, Eq)]
 pub enum Operands {
     None,
     One(Sort),
@@ -46,7 +46,7 @@ pub enum Operands {
     Three(Sort, Sort, Sort),
 }
 
-#[derive(Clone, Copy)]
+#[derive(Clone, Copy, Debug, PartialEq, Eq)]
 pub struct Signature {
     pub operands: Operands,
     pub result: Sort,
@@ -136,10 +136,7 @@ static OPERATORS: [Entry<(Operator, Signature)>; 25] = [
 pub fn find(word: &[u8]) -> Option<Operator>
     ensures { result ≡ operator_of word.now }
 {
-    match lookup(word, &OPERATORS) {
-        Some((operator, _)) => Some(operator),
-        None => None,
-    }
+    lookup(word, &OPERATORS).map(|(operator, _)| operator)
 }
 
 impl Operator {
@@ -159,6 +156,18 @@ impl Operator {
             Operands::One(_) => 1,
             Operands::Two(_, _) => 2,
             Operands::Three(_, _, _) => 3,
+        }
+    }
+
+    // Each operand that it takes, with its sort; `None` past its last.
+    pub fn sorted<X: Copy>(self, a: X, b: X, c: X) -> [Option<(Sort, X)>; 3]
+        ensures { result ≡ sorted_by (operands_of self) a b c }
+    {
+        match self.signature().operands {
+            Operands::None => [None, None, None],
+            Operands::One(s) => [Some((s, a)), None, None],
+            Operands::Two(s, t) => [Some((s, a)), Some((t, b)), None],
+            Operands::Three(s, t, u) => [Some((s, a)), Some((t, b)), Some((u, c))],
         }
     }
 

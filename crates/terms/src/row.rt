@@ -5,7 +5,7 @@ ghost use Rattle.terms.specs.Examples.{Examples};
 use super::operator::Operator;
 
 // One row of a term, with `M` what a term of this place can mention: a unit's variable, a condition's cell.
-#[derive(Clone, Copy)]
+#[derive(Clone, Copy, Debug, PartialEq, Eq)]
 pub enum Row<M> {
     Constant(i64),
     Mention(M),

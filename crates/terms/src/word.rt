@@ -4,7 +4,7 @@ ghost use Rattle.std.specs.Prelude.{◌≡◌};
 ghost use Rattle.terms.specs.Words.{same_word, found};
 
 // A word and what it stands for.
-#[derive(Clone, Copy)]
+#[derive(Clone, Copy, Debug, PartialEq, Eq)]
 pub struct Entry<T>(pub &'static [u8], pub T);
 
 pub fn same_word(a: &[u8], b: &[u8]) -> bool
@@ -17,10 +17,8 @@ pub fn same_word(a: &[u8], b: &[u8]) -> bool
 pub fn lookup<T: Copy>(word: &[u8], table: &[Entry<T>]) -> Option<T>
     ensures { result ≡ found word.now table.now }
 {
-    for line in table {
-        if same_word(word, line.0) {
-            return Some(line.1);
-        }
-    }
-    None
+    table
+        .iter()
+        .find(|line| same_word(word, line.0))
+        .map(|line| line.1)
 }

@@ -1,9 +1,9 @@
-use Rattle.std.proofs.Common.{ap}
-use Rattle.terms.proofs.Table.{first_part, part_of}
+use Rattle.std.proofs.Common.{◌≡◌, ap, ◌∙◌, rules}
+use Rattle.std.specs.Option.{option_map}
+use Rattle.terms.proofs.Table.{option_map_cond}
 use Rattle.terms.proofs.operator.find.Goals as goal
 
-pub returns-in-Some : goal.returns-in-Some
-returns-in-Some c = simp part_of at (ap first_part c.in-Some.ensures)
-
-pub returns-in-None : goal.returns-in-None
-returns-in-None c = simp part_of at (ap first_part c.in-None.ensures)
+pub returns : goal.returns
+returns c =
+    let first : c.map.result ≡ option_map (λ p. p.0) c.lookup.result = search rules in
+    simp option_map_cond at (first ∙ ap (option_map (λ p. p.0)) c.lookup.ensures)
