@@ -1,32 +1,35 @@
-use Rattle.std.proofs.Common.{◌≡◌, ◌-◌, ◌≤◌, length, take, drop, sym, refl, ap, ◌∙◌, arith}
-use Rattle.std.proofs.lemmas.List.{drop_all, take-take}
+use Rattle.std.proofs.Common.{◌≡◌, ◌-◌, ◌≤◌, Some, length, take, drop, sym, ap, ◌∙◌, arith, rules}
+use Rattle.std.proofs.lemmas.List.{length_push, length-reverse, take-take}
+use Rattle.std.proofs.lemmas.Iterator.Adapters.{YieldsList-from_rev_slice}
+use Rattle.std.proofs.lemmas.Iterator.Consumers.{YieldsList-turn, YieldsList-end}
+use Rattle.std.specs.Result.{result_ok}
 use Rattle.terms.specs.Terms.{fold, onto}
-use Rattle.terms.proofs.Stacking.{row_next}
+use Rattle.terms.proofs.Stacking.{row_next, row_taken}
 use Rattle.terms.proofs.fold.fold.Goals as goal
 
-pub push_row-top-requires : goal.push_row-top-requires
-push_row-top-requires g c = record { room = omega (arith, c.loop-i.invariant.0, c.loop-i-test.true); inside = c.loop-i.invariant.1; absent = c.absent-absent.ensures }
-
-pub loop-i-init : goal.loop-i-init
-loop-i-init g c =
+pub loop-row-preserved : goal.loop-row-preserved
+loop-row-preserved g c =
     let a = g.I.Interpretation.algebra c.args.interpretation.now in
-    (omega (arith, c.if-stack-rows.false), omega arith, refl, drop_all (length c.args.stack.now) c.args.stack.now (omega arith) ∙ sym (ap (fold a) (drop_all (length c.args.rows.now) c.args.rows.now (omega arith))))
-
-pub loop-i-preserved : goal.loop-i-preserved
-loop-i-preserved g c =
-    let a = g.I.Interpretation.algebra c.args.interpretation.now in
-    let n = length c.args.stack.now - length c.args.rows.now in
-    let top = c.loop-i.top in
-    let row = c.index-rows-i.result in
-    let inside : n ≤ top - 1 = omega (arith, c.loop-i.invariant.0, c.loop-i-test.true) in (
-      omega (arith, c.push_row-top.ensures.low, c.loop-i.invariant.0, c.loop-i-test.true),
-      omega (arith, c.push_row-top.ensures.high, c.push_row-top.auto.stack),
-      sym (take-take n (top - 1) c.push_row-top.new.stack inside) ∙ ap (take n) c.push_row-top.ensures.kept ∙ take-take n (top - 1) c.loop-i.stack inside ∙ c.loop-i.invariant.2,
-      c.push_row-top.ensures.stack ∙ ap (onto a row) c.loop-i.invariant.3 ∙ sym (ap (fold a) (row_next c.args.rows.now c.loop-i.i row c.loop-i-test.true c.loop-i.auto.i c.index-rows-i.is)),
-    )
+    let rows = c.args.rows.now in
+    let n = length c.new-stack.result.entries.now - length rows in
+    let top = c.loop-row.stack.top in
+    let turn = YieldsList-turn (YieldsList-from_rev_slice rows (search rules)) c.loop-row.yielded _ c.loop-row.yielded_by _ _ c.in-Some.row c.in-Some.is c.next.ensures.steps in
+    let more = length_push c.loop-row.yielded c.in-Some.row in
+    let is_ok : result_ok c.read.result ≡ Some tt = sym c.ok.ensures.value ∙ c.in_ok-ok.was in
+    let taken = row_taken a c.in-Some.row.now c.loop-row.stack.entries.now top c.read.result c.read.new.self.entries.now c.read.new.self.top is_ok c.read.ensures.read in
+    let inside : n ≤ top - 1 = omega (arith, turn.0, length-reverse rows, c.loop-row.invariant.room) in
+    record {
+      named = c.read.ensures.same ∙ c.loop-row.invariant.named;
+      room = omega (arith, taken.1, more, c.loop-row.invariant.room);
+      kept = sym (take-take n (top - 1) c.read.new.self.entries.now inside) ∙ ap (take n) taken.4 ∙ take-take n (top - 1) c.loop-row.stack.entries.now inside ∙ c.loop-row.invariant.kept;
+      folded = taken.3 ∙ ap (onto a c.in-Some.row.now) c.loop-row.invariant.folded ∙ sym (ap (λ k. fold a (drop (length rows - k) rows)) more ∙ ap (fold a) (row_next rows (length c.loop-row.yielded) c.in-Some.row.now turn));
+    }
 
 pub returns : goal.returns
 returns g c =
     let a = g.I.Interpretation.algebra c.args.interpretation.now in
-    let none : c.loop-i.i ≡ 0 = omega (arith, c.loop-i-test.false) in
-    (c.if-stack-rows.false, c.loop-i.invariant.1, c.loop-i.invariant.3 ∙ ap (λ i. fold a (drop i c.args.rows.now)) none, c.loop-i.invariant.2)
+    let rows = c.args.rows.now in
+    let end = YieldsList-end (YieldsList-from_rev_slice rows (search rules)) c.loop-row.yielded _ c.loop-row.yielded_by _ _ c.in-None.is c.next.ensures.steps in
+    let none : length rows - length c.loop-row.yielded ≡ 0 = omega (arith, end.1, length-reverse rows) in
+    let folded : drop c.loop-row.stack.top c.loop-row.stack.entries.now ≡ fold a rows = c.loop-row.invariant.folded ∙ ap (λ k. fold a (drop k rows)) none in
+    (c.if-entries-rows.false, search rules, search rules, search rules)
