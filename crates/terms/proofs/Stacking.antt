@@ -1,13 +1,13 @@
 -- The stack in the lent entries.
-use Rattle.std.proofs.Common.{◌≡◌, ℕ, ◌+◌, ◌-◌, ◌<◌, List, ◌∷◌, length, get_or, drop, reverse, Some, Ok, Err, Result, sym, ap, ◌∙◌, ap₂, arith}
-use Rattle.std.proofs.lemmas.List.{drop_more, get_or-reverse, length-reverse}
-use Rattle.std.specs.Result.{result_ok}
+use Rattle.std.proofs.Common.{◌≡◌, ℕ, ◌+◌, ◌-◌, ◌<◌, ◌≤◌, List, ◌∷◌, length, get_or, take, drop, reverse, Some, Ok, Err, Result, refl, sym, ap, ◌∙◌, ap₂, arith}
+use Rattle.std.proofs.lemmas.List.{drop_more, get_or-reverse, length-reverse, take-take}
+use Rattle.std.specs.List.{slice_get}
 use Rattle.terms.specs.declared.fold.Full.{Full}
 use Rattle.terms.specs.declared.operator.Operator.{Operator}
 use Rattle.terms.specs.declared.row.Row.{Row}
 use Rattle.terms.specs.declared.row.Row.TheVariants.{Operator as Applied}
 use Rattle.terms.specs.Operators.{arity}
-use Rattle.terms.specs.Terms.{Algebra, onto, Replaced, FoldedRow}
+use Rattle.terms.specs.Terms.{Algebra, onto, fold, Replaced, FoldedRow}
 
 module _ {M X : Type 0} (g : Algebra M X) (row : Row M) where
   -- an operator, by the entry that it puts in the place of its operands
@@ -18,9 +18,9 @@ module _ {M X : Type 0} (g : Algebra M X) (row : Row M) where
       e ∙ ap₂ (λ a b. g.operator o a b z) (p ∙ given 0) (q ∙ given 1) ∙ ap (g.operator o (get_or st 0 g.absent) (get_or st 1 g.absent)) (s ∙ given 2) in
       ap₂ (λ m k. m ∷ drop k st) made l ∙ ap (λ q. onto g q st) (sym is)
 
-  pub row_read : (before : List X) (top taken : ℕ) (x : X) (r : Result (Unit {0}) Full) (after : List X) (next : ℕ) → 0 < top → x ∷ drop taken (drop top before) ≡ onto g row (drop top before) → Replaced taken x before top r after next → FoldedRow g row before top r after next
-  row_read before top taken x (Ok _) after next some is h = (some, h.0, h.1, h.2 ∙ is, h.3)
-  row_read before top taken x (Err _) after next some is h = h
+  pub row_read : (before : List X) (top taken : ℕ) (x : X) (r : Result X Full) (after : List X) (next : ℕ) → x ∷ drop taken (drop top before) ≡ onto g row (drop top before) → Replaced taken x before top r after next → FoldedRow g row before top r after next
+  row_read before top taken x (Ok y) after next is h = (ap (λ st. slice_get st 0) (sym is) ∙ ap Some (sym h.0), h.1, h.2, h.3 ∙ is, h.4)
+  row_read before top taken x (Err _) after next is h = h
 
 -- the row that comes when so many have come, from the last to the first
 pub row_next : {X : Type 0} (rows : List X) (n : ℕ) (x : X) → (n < length (reverse rows)) × (x ≡ get_or (reverse rows) n x) → drop (length rows - (n + 1)) rows ≡ x ∷ drop (length rows - n) rows
@@ -30,7 +30,30 @@ row_next rows n x h =
     let f : length rows - (n + 1) ≡ length rows - 1 - n = omega arith in
     ap (λ k. drop k rows) f ∙ drop_more rows (length rows - 1 - n) x (omega arith) ∙ ap₂ (λ y k. y ∷ drop k rows) (sym (h.1 ∙ get_or-reverse rows n x small)) e
 
--- what a row that was read leaves
-pub row_taken : {M X : Type 0} (g : Algebra M X) (row : Row M) (before : List X) (top : ℕ) (r : Result (Unit {0}) Full) (after : List X) (next : ℕ) → result_ok r ≡ Some tt → FoldedRow g row before top r after next → FoldedRow g row before top (Ok tt) after next
-row_taken g row before top (Ok _) after next is h = h
-row_taken g row before top (Err _) after next is h = cc
+module _ {M X : Type 0} (g : Algebra M X) (rows : List (Row M)) (before : List X) where
+  -- so many rows are read, from the last on, onto a stack at the end of the entries
+  abbrev pub Held : ℕ → List X → ℕ → Type 0
+  Held n entries top = record {
+    room : length before ≤ top + n;
+    kept : take (length before - length rows) entries ≡ take (length before - length rows) before;
+    folded : drop top entries ≡ fold g (drop (length rows - n) rows);
+  }
+
+  -- the next row finds room, and what it comes to is the newest entry
+  pub row_held : (n : ℕ) (row : Row M) (entries after : List X) (top next : ℕ) (r : Result X Full) → length rows ≤ length before → (n < length (reverse rows)) × (row ≡ get_or (reverse rows) n row) → Held n entries top → FoldedRow g row entries top r after next
+      → (x : X) × (r ≡ Ok x) × (slice_get (fold g (drop (length rows - (n + 1)) rows)) 0 ≡ Some x) × Held (n + 1) after next
+  row_held n row entries after top next (Ok x) enough turn held read =
+      let k = length before - length rows in
+      let inside : k ≤ top - 1 = omega (arith, held.room, turn.0, length-reverse rows) in
+      let whole : onto g row (drop top entries) ≡ fold g (drop (length rows - (n + 1)) rows) = ap (onto g row) held.folded ∙ sym (ap (fold g) (row_next rows n row turn)) in
+      (x, refl, ap (λ st. slice_get st 0) (sym whole) ∙ read.0, record {
+        room = omega (arith, held.room, read.1);
+        kept = sym (take-take k (top - 1) after inside) ∙ ap (take k) read.4 ∙ take-take k (top - 1) entries inside ∙ held.kept;
+        folded = read.3 ∙ whole;
+      })
+  row_held n row entries after top next (Err _) enough turn held read = absurd (omega (arith, held.room, turn.0, length-reverse rows, read.0))
+
+  pub all_held : (n : ℕ) (entries : List X) (top : ℕ) → n ≡ length (reverse rows) → Held n entries top → drop top entries ≡ fold g rows
+  all_held n entries top is held =
+      let none : length rows - n ≡ 0 = omega (arith, is, length-reverse rows) in
+      held.folded ∙ ap (λ k. fold g (drop k rows)) none

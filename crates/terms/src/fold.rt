@@ -64,7 +64,7 @@ impl<'a, X: Copy> Stack<'a, X> {
     }
 
     // Puts an entry in the place of so many, or of all that there are if they are fewer.
-    fn replace(&mut self, taken: usize, entry: X) -> Result<(), Full>
+    fn replace(&mut self, taken: usize, entry: X) -> Result<X, Full>
         ensures same { self.new.entries.ghost_name ≡ self.old.entries.ghost_name }
         ensures replaced { Replaced taken entry self.old.entries.now self.old.top result self.new.entries.now self.new.top }
     {
@@ -74,15 +74,15 @@ impl<'a, X: Copy> Stack<'a, X> {
         }
         self.top = rest - 1;
         self.entries[self.top] = entry;
-        Ok(())
+        Ok(entry)
     }
 
-    // Reads one row.
+    // Reads one row, and tells its entry, which is the newest then.
     pub fn read<M: Copy, I: Interpretation<M, X>>(
         &mut self,
         interpretation: &I,
         row: Row<M>,
-    ) -> Result<(), Full>
+    ) -> Result<X, Full>
         ensures same { self.new.entries.ghost_name ≡ self.old.entries.ghost_name }
         ensures read { FoldedRow (I.algebra interpretation.now) row self.old.entries.now self.old.top result self.new.entries.now self.new.top }
     {
