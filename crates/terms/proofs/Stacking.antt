@@ -3,24 +3,8 @@ use Rattle.std.proofs.Common.{◌≡◌, ℕ, ◌+◌, ◌-◌, ◌<◌, ◌≤�
 use Rattle.std.proofs.lemmas.List.{drop_more, get_or-reverse, length-reverse, take-take}
 use Rattle.std.specs.List.{slice_get}
 use Rattle.terms.specs.declared.fold.Full.{Full}
-use Rattle.terms.specs.declared.operator.Operator.{Operator}
 use Rattle.terms.specs.declared.row.Row.{Row}
-use Rattle.terms.specs.declared.row.Row.TheVariants.{Operator as Applied}
-use Rattle.terms.specs.Operators.{arity}
-use Rattle.terms.specs.Terms.{Algebra, onto, fold, Replaced, FoldedRow}
-
-module _ {M X : Type 0} (g : Algebra M X) (row : Row M) where
-  -- an operator, by the entry that it puts in the place of its operands
-  pub operator_read : (st : List X) (o : Operator) (none entry x y z : X) (n : ℕ) → none ≡ g.absent → row ≡ Applied o → x ≡ get_or st 0 none → y ≡ get_or st 1 none → z ≡ get_or st 2 none → entry ≡ g.operator o x y z → n ≡ arity o → entry ∷ drop n st ≡ onto g row st
-  operator_read st o none entry x y z n top is p q s e l =
-      let given : (k : ℕ) → get_or st k none ≡ get_or st k g.absent = λ k. ap (get_or st k) top in
-      let made : entry ≡ g.operator o (get_or st 0 g.absent) (get_or st 1 g.absent) (get_or st 2 g.absent) =
-      e ∙ ap₂ (λ a b. g.operator o a b z) (p ∙ given 0) (q ∙ given 1) ∙ ap (g.operator o (get_or st 0 g.absent) (get_or st 1 g.absent)) (s ∙ given 2) in
-      ap₂ (λ m k. m ∷ drop k st) made l ∙ ap (λ q. onto g q st) (sym is)
-
-  pub row_read : (before : List X) (top taken : ℕ) (x : X) (r : Result X Full) (after : List X) (next : ℕ) → x ∷ drop taken (drop top before) ≡ onto g row (drop top before) → Replaced taken x before top r after next → FoldedRow g row before top r after next
-  row_read before top taken x (Ok y) after next is h = (ap (λ st. slice_get st 0) (sym is) ∙ ap Some (sym h.0), h.1, h.2, h.3 ∙ is, h.4)
-  row_read before top taken x (Err _) after next is h = h
+use Rattle.terms.specs.Terms.{Algebra, onto, fold, FoldedRow}
 
 -- the row that comes when so many have come, from the last to the first
 pub row_next : {X : Type 0} (rows : List X) (n : ℕ) (x : X) → (n < length (reverse rows)) × (x ≡ get_or (reverse rows) n x) → drop (length rows - (n + 1)) rows ≡ x ∷ drop (length rows - n) rows
@@ -45,12 +29,16 @@ module _ {M X : Type 0} (g : Algebra M X) (rows : List (Row M)) (before : List X
   row_held n row entries after top next (Ok x) enough turn held read =
       let k = length before - length rows in
       let inside : k ≤ top - 1 = omega (arith, held.room, turn.0, length-reverse rows) in
-      let whole : onto g row (drop top entries) ≡ fold g (drop (length rows - (n + 1)) rows) = ap (onto g row) held.folded ∙ sym (ap (fold g) (row_next rows n row turn)) in
-      (x, refl, ap (λ st. slice_get st 0) (sym whole) ∙ read.0, record {
-        room = omega (arith, held.room, read.1);
-        kept = sym (take-take k (top - 1) after inside) ∙ ap (take k) read.4 ∙ take-take k (top - 1) entries inside ∙ held.kept;
-        folded = read.3 ∙ whole;
-      })
+      let whole : onto g row (drop top entries) ≡ fold g (drop (length rows - (n + 1)) rows) = ap (onto g row) held.folded ∙ sym (ap (fold g) (row_next rows n row turn)) in (
+        x,
+        refl,
+        ap (λ st. slice_get st 0) (sym whole) ∙ read.0,
+        record {
+          room = omega (arith, held.room, read.1);
+          kept = sym (take-take k (top - 1) after inside) ∙ ap (take k) read.4 ∙ take-take k (top - 1) entries inside ∙ held.kept;
+          folded = read.3 ∙ whole;
+        },
+      )
   row_held n row entries after top next (Err _) enough turn held read = absurd (omega (arith, held.room, turn.0, length-reverse rows, read.0))
 
   pub all_held : (n : ℕ) (entries : List X) (top : ℕ) → n ≡ length (reverse rows) → Held n entries top → drop top entries ≡ fold g rows

@@ -1,10 +1,10 @@
 -- What two numbers of 64 bits give in 128 bits is exact.
-use Rattle.std.proofs.Common.{◌≡◌, ℕ, zero, suc, ◌*◌, ◌/◌, ◌≤◌, ℤ, pos, negsuc, ◌*ℤ◌, neg_ℤ, nat_abs, refl, mul-le-mul, mul-zero, div-le_self, arith, w64, SFits, to_z, of_z}
+use Rattle.std.proofs.Common.{◌≡◌, ℕ, zero, suc, ◌*◌, ◌/◌, ℤ, pos, negsuc, ◌*ℤ◌, neg_ℤ, refl, mul-zero, arith, w64, SFits, to_z, of_z}
 use native.Mathlib.Nat.{div-add-mod}
-use lib.Signed.{mag, quot_z, rem_z, mag_rem}
+use lib.Signed.{rem_z, mag_rem}
 use mir.Syntax.{w128}
 use Rattle.std.proofs.lemmas.Int.{ints, to_z-of_z}
-use Rattle.terms.specs.Numbers.{quotient, remainder}
+use Rattle.terms.specs.Numbers.{remainder}
 
 wide : (z : ℤ) → SFits w64 z → SFits w128 z
 wide z f = record { sfits = omega (arith, f.sfits) }
@@ -12,35 +12,8 @@ wide z f = record { sfits = omega (arith, f.sfits) }
 pub exact : (f : ℤ → ℤ → ℤ) (a b : ℤ) → SFits w64 a → SFits w64 b → SFits w128 (f a b) → to_z w128 (of_z w128 (f (to_z w128 (of_z w128 (to_z w64 (of_z w64 a)))) (to_z w128 (of_z w128 (to_z w64 (of_z w64 b)))))) ≡ f a b
 exact f a b p q r = let p' = wide a p in let q' = wide b q in simp to_z-of_z
 
-mag_product : (a b : ℤ) → mag (a *ℤ b) ≤ nat_abs a * nat_abs b
-mag_product (pos a) (pos b) = omega arith
-mag_product (pos a) (negsuc b) = omega (arith, ints)
-mag_product (negsuc a) (pos b) = omega (arith, ints)
-mag_product (negsuc a) (negsuc b) = omega arith
-
-size : (z : ℤ) → SFits w64 z → nat_abs z ≤ 9223372036854775808
-size z f = omega (arith, ints, f.sfits)
-
-pub product_fits : (a b : ℤ) → SFits w64 a → SFits w64 b → SFits w128 (a *ℤ b)
-product_fits a b p q = record { sfits = omega (arith, mag_product a b, mul-le-mul (size a p) (size b q)) }
-
-mag_quotient : (a b : ℤ) → mag (quotient a b) ≤ nat_abs a
-mag_quotient (pos a) (pos b) = div-le_self a b
-mag_quotient (pos a) (negsuc b) = omega (arith, ints, div-le_self a (suc b))
-mag_quotient (negsuc a) (pos b) = omega (arith, ints, div-le_self (suc a) b)
-mag_quotient (negsuc a) (negsuc b) = div-le_self (suc a) (suc b)
-
-pub quotient_fits : (a b : ℤ) → SFits w64 a → SFits w128 (quotient a b)
-quotient_fits a b p = record { sfits = omega (arith, mag_quotient a b, size a p) }
-
 pub remainder_fits : (a b : ℤ) → SFits w64 a → SFits w128 (rem_z a b)
 remainder_fits a b p = record { sfits = omega (arith, p.sfits, mag_rem a b) }
-
-pub quotient_is : (a b : ℤ) → quot_z a b ≡ quotient a b
-quotient_is (pos a) (pos b) = refl
-quotient_is (pos a) (negsuc b) = refl
-quotient_is (negsuc a) (pos b) = refl
-quotient_is (negsuc a) (negsuc b) = refl
 
 neg_neg : (b q : ℕ) → negsuc b *ℤ neg_ℤ (pos q) ≡ pos (suc b * q)
 neg_neg b zero = omega (arith, ints, mul-zero (suc b))
