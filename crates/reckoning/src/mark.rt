@@ -6,5 +6,5 @@ pub struct Mark {
     pub high: i64,
 }
 
-// 'Any': the mark of a number of which nothing is known, the top of the domain. Its bounds are turned, so it is no point and no range.
+// 'Any': the mark of a number of which nothing is known, the top of the domain. Its bounds are turned, so it is no point and no range; no case of an enum, since a mark is any two numbers, and every pair that is no point or no range means 'any'.
 pub const ANY: Mark = Mark { low: 1, high: 0 };

@@ -96,6 +96,7 @@ fn unknown(operator: Operator) -> Mark
     }
 }
 
+// Two functions, since one over `min` or `max` would need a closure and a clause on it.
 fn least(p: i128, q: i128, r: i128, s: i128) -> i128
     ensures { result ≡ least4 p q r s }
 {

@@ -25,7 +25,7 @@ pub trait Reckoning {
     fn bounds(&self, low: i64, high: i64) -> Mark
         ensures { result ≡ (meaning self.now).bounded low high };
 
-    // An operator ignores what stands past its last operand.
+    // An operator ignores what stands past its last operand. The three are no array, so that no law of an operator speaks of lists.
     fn apply(&self, operator: Operator, a: Mark, b: Mark, c: Mark) -> Mark
         ensures { result ≡ (meaning self.now).applied operator a b c };
 

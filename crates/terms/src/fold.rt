@@ -17,7 +17,7 @@ pub trait Interpretation<M, X> {
     fn mention(&self, mention: M) -> X
         ensures { result ≡ (algebra self.now).mention mention };
 
-    // An operator ignores what stands past its last operand.
+    // An operator ignores what stands past its last operand. The three are no array, so that no law of an operator speaks of lists.
     fn operator(&self, operator: Operator, a: X, b: X, c: X) -> X
         ensures { result ≡ (algebra self.now).operator operator a b c };
 
