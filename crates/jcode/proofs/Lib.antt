@@ -1,7 +1,5 @@
-pub mod Slices
-pub mod Runs
-pub mod Values
 pub mod Names
+pub mod Values
 pub mod Stores
 pub mod Chains
 pub mod Repeats

@@ -1,11 +1,11 @@
 -- The rows that are read fit the row table.
-use Rattle.std.proofs.Common.{◌≡◌, ℕ, zero, suc, ◌+◌, ◌<◌, ◌≤◌, Bool, true, false, cond, eqb, leb, List, [], ◌∷◌, ◌++◌, length, refl, ap, ◌∙◌, arith, length-append}
+use Rattle.std.proofs.Common.{◌≡◌, ℕ, zero, suc, ◌+◌, ◌<◌, ◌≤◌, Bool, true, false, cond, eqb, leb, List, [], ◌∷◌, ◌++◌, length, codes, refl, ap, ◌∙◌, arith, length-append}
 use Rattle.std.proofs.lemmas.Bool.{leb-false}
 use Rattle.jcode.specs.declared.refusal.ReadFault.{ReadFault}
 use Rattle.jcode.specs.declared.span.Span.{Span}
 use Rattle.jcode.specs.declared.statement_reader.Verb.{Verb}
 use Rattle.jcode.specs.declared.statement_reader.Verb.TheVariants as verb
-use Rattle.jcode.specs.Pieces.{Answer, got, refused, Reader, and_then, ◌▷◌, ◌◁◌, ◌⊗◌, read_byte, read_gap, read_end, read_may_gap, read_text, white_run}
+use Rattle.jcode.specs.Pieces.{Answer, got, refused, Reader, and_then, ◌▷◌, ◌◁◌, ◌⊗◌, read_mark, read_gap, read_end, read_may_gap, read_text, past_gap}
 use Rattle.jcode.specs.Scopes.{Scope}
 use Rattle.jcode.specs.ReadTerms.{UnitRow, read_open, read_begin, read_lead, read_operands, read_term, read_close, operands_after}
 use Rattle.jcode.specs.Sentences.{Sentence, Hang, Break, Require, Proclaim, New, Assign, Split, When, Branch, Join, rows_of}
@@ -25,7 +25,7 @@ begun : (sc : Scope) (left room used : ℕ) (bytes : List ℕ) (at : ℕ) {r : U
 unfolding read_begin
 begun sc left room used bytes at e =
     let o = came (read_open left room used bytes at) _ e in
-    let b = came (read_byte 40 bytes at) _ o.2 in
+    let b = came (read_mark (codes "(") bytes at) _ o.2 in
     let n = unless (eqb left 0) _ _ b.3 in
     let l = unless (leb 2000 used) _ _ n.1 in
     let t = unless (leb room used) _ _ l.1 in
@@ -102,18 +102,18 @@ sentence_room sc room used verb.New bytes at s j h e =
     let l = came (read_gap bytes at) _ g.2 in
     let v = came (read_listing sc bytes l.1) _ l.3 in
     let t = given ((read_may_gap ▷ (read_expression (listing sc v.0) room used ⊗ λ _. read_text_end)) bytes v.1) (λ b. (v.0, b)) v.3 in
-    let i = v.1 + white_run 32 bytes v.1 in
+    let i = past_gap bytes v.1 in
     omega (arith, paired (listing sc v.0) room used h (λ _. read_text_end) bytes i t.2, ap (λ s. length (rows_of s)) g.3, ap (λ p. length p.1.0) t.3)
 sentence_room sc room used verb.Assign bytes at s j h e =
     let g = given ((read_gap ▷ (read_target sc ⊗ λ _. read_may_gap ▷ (read_expression sc room used ⊗ λ e. read_may_gap ▷ (read_expression sc room (used + length e) ◁ read_end)))) bytes at) (λ p. Assign p.0 p.1.0 p.1.1) e in
     let l = came (read_gap bytes at) _ g.2 in
     let v = came (read_target sc bytes l.1) _ l.3 in
     let t = given ((read_may_gap ▷ (read_expression sc room used ⊗ λ e. read_may_gap ▷ (read_expression sc room (used + length e) ◁ read_end))) bytes v.1) (λ b. (v.0, b)) v.3 in
-    let i = v.1 + white_run 32 bytes v.1 in
+    let i = past_gap bytes v.1 in
     let x = came (read_expression sc room used bytes i) _ t.2 in
     let first = expression_room sc room used bytes i x.0 x.1 h x.2 in
     let y = given ((read_may_gap ▷ (read_expression sc room (used + length x.0) ◁ read_end)) bytes x.1) (λ b. (x.0, b)) x.3 in
-    let second = alone sc room (used + length x.0) first bytes (x.1 + white_run 32 bytes x.1) y.2 in
+    let second = alone sc room (used + length x.0) first bytes (past_gap bytes x.1) y.2 in
     let rows : rows_of s ≡ x.0 ++ y.0 = ap rows_of g.3 ∙ ap (λ p. p.1.0 ++ p.1.1) t.3 ∙ ap (λ p. p.0 ++ p.1) y.3 in
     omega (arith, ap length rows, length-append x.0 y.0)
 sentence_room sc room used verb.Split bytes at s j h e = let g = given (read_gap_label bytes at) Split e in rowless room used s (Split g.0) h refl g.3

@@ -1,5 +1,5 @@
 -- Statements: how they are read.
-use Rattle.std.specs.Prelude.{◌≡◌, ℕ, ◌+◌, Bool, cond, not, List, [], ◌∷◌, length, Result, ◌==◌, slice_index}
+use Rattle.std.specs.Prelude.{◌≡◌, ℕ, ◌+◌, Bool, cond, not, List, [], ◌∷◌, length, Result, codes, ◌==◌}
 use Rattle.jcode.specs.declared.cursor.Cursor.{Cursor}
 use Rattle.jcode.specs.declared.refusal.ReadFault.{ReadFault}
 use Rattle.jcode.specs.declared.refusal.Refusal.TheVariants.{Limit, Name}
@@ -10,7 +10,8 @@ use Rattle.jcode.specs.declared.statement.Statement.TheVariants as stands
 use Rattle.jcode.specs.declared.statement.Term.{Term}
 use Rattle.jcode.specs.declared.statement_reader.Verb.{Verb}
 use Rattle.jcode.specs.declared.statement_reader.Verb.TheVariants as verb
-use Rattle.jcode.specs.Pieces.{Answer, got, Reader, refuse, and_then, ◌▷◌, ◌◁◌, ◌⊗◌, ◌giving◌, repeated, white_run, read_byte, read_gap, read_end, read_may_gap, read_name, read_label, read_text}
+use Rattle.jcode.specs.Bytes.{stands}
+use Rattle.jcode.specs.Pieces.{Answer, got, Reader, refuse, and_then, ◌▷◌, ◌◁◌, ◌⊗◌, ◌giving◌, repeated, past_gap, read_mark, read_gap, read_end, read_may_gap, read_name, read_label, read_text}
 use Rattle.jcode.specs.Scopes.{Scope, member}
 use Rattle.jcode.specs.Tables.{put}
 use Rattle.jcode.specs.ReadTerms.{UnitRow, told_rows, read_variable, read_close, read_term}
@@ -24,7 +25,7 @@ abbrev pub read_expression : Scope → ℕ → ℕ → Reader (List UnitRow)
 read_expression sc room used = read_term sc room nesting used
 
 abbrev pub read_bracketed : {A : Type 0} → Reader A → Reader A
-read_bracketed r = read_byte 40 ▷ (read_may_gap ▷ (r ◁ read_close))
+read_bracketed r = read_mark (codes "(") ▷ (read_may_gap ▷ (r ◁ read_close))
 
 -- a name in brackets
 unfoldable pub read_single : Scope → Reader ℕ
@@ -35,7 +36,7 @@ unfoldable pub read_again : Scope → ℕ → Reader (Unit {0})
 read_again sc v bytes at = and_then (read_variable sc bytes at) (λ u j. cond (u == v) (got tt j) (refuse Name at))
 
 unfoldable pub read_repeated : Scope → ℕ → Reader (Unit {0})
-read_repeated sc v = read_may_gap ▷ (read_byte 40 ▷ (read_may_gap ▷ (read_again sc v ▷ read_close)))
+read_repeated sc v = read_may_gap ▷ (read_mark (codes "(") ▷ (read_may_gap ▷ (read_again sc v ▷ read_close)))
 
 -- ASSIGN's variable, listed and repeated
 abbrev pub read_target : Scope → Reader ℕ
@@ -43,7 +44,7 @@ read_target sc = (read_single sc ⊗ read_repeated sc) giving (λ p. p.0)
 
 -- whether no closing bracket stands here, perhaps after a gap
 abbrev pub goes_on : List ℕ → ℕ → Bool
-goes_on bytes at = not (slice_index bytes (at + white_run 32 bytes at) == 41)
+goes_on bytes at = not (stands 41 bytes (past_gap bytes at))
 
 -- a variable for a list that may be full, and holds those seen
 unfoldable pub read_unseen : Scope → Bool → List ℕ → Reader ℕ
@@ -58,13 +59,13 @@ read_more sc = repeated goes_on (λ full seen. read_gap ▷ read_unseen sc full 
 
 unfoldable pub read_names : Scope → Reader (List ℕ)
 read_names sc bytes at =
-    cond (slice_index bytes at == 41)
+    cond (stands 41 bytes at)
     (got [] (at + 1))
     (and_then (read_variable sc bytes at) (λ v j. read_more sc 7 (v ∷ []) bytes j))
 
 -- names in brackets, at most 8, none twice
 unfoldable pub read_listing : Scope → Reader (List ℕ)
-read_listing sc = read_byte 40 ▷ (read_may_gap ▷ read_names sc)
+read_listing sc = read_mark (codes "(") ▷ (read_may_gap ▷ read_names sc)
 
 -- the listed names as their record: after the first, from the first on, and from the opening bracket on
 abbrev pub read_more_listed : Scope → ℕ → Reader Listing

@@ -1,5 +1,5 @@
 -- Terms: how they are read.
-use Rattle.std.specs.Prelude.{◌≡◌, ℕ, zero, suc, ◌+◌, Bool, true, false, cond, List, [], ◌∷◌, ◌++◌, length, Some, None, Ok, Err, codes, Option, Result, ◌==◌, nat_le, slice_index}
+use Rattle.std.specs.Prelude.{◌≡◌, ℕ, zero, suc, ◌+◌, Bool, true, false, cond, List, [], ◌∷◌, ◌++◌, length, Some, None, Ok, Err, codes, Option, Result, ◌==◌, nat_le}
 use Rattle.terms.specs.declared.operator.Operator.{Operator}
 use Rattle.terms.specs.declared.row.Row.{Row}
 use Rattle.terms.specs.declared.row.Row.TheVariants.{Constant, Mention as Mentioned, Operator as Applied}
@@ -16,8 +16,8 @@ use Rattle.jcode.specs.declared.refusal.Refusal.TheVariants.{Missing, Limit, Tab
 use Rattle.jcode.specs.declared.span.Span.{Span}
 use Rattle.jcode.specs.declared.term_reader.Head.{Head}
 use Rattle.jcode.specs.declared.term_reader.Head.TheVariants.{Constant as ConstantHead, Defined, New as NewHead, Operator as OperatorHead}
-use Rattle.jcode.specs.Bytes.{slice}
-use Rattle.jcode.specs.Pieces.{Answer, got, refused, Reader, refuse, and_then, ◌▷◌, ◌giving◌, read_byte, read_gap, read_may_gap, read_name, read_number}
+use Rattle.jcode.specs.Bytes.{slice, stands}
+use Rattle.jcode.specs.Pieces.{Answer, got, refused, Reader, refuse, and_then, ◌▷◌, ◌giving◌, read_mark, read_gap, read_may_gap, read_name, read_number}
 use Rattle.jcode.specs.Scopes.{Scope, index_of, member}
 use Rattle.jcode.specs.Tables.{put}
 
@@ -57,7 +57,7 @@ mention a s v = Mentioned (record { variable = v; aspect = a; stage = s })
 abbrev pub read_defined : Scope → Reader UnitRow
 read_defined sc bytes at =
     and_then (read_name bytes at) (λ s j.
-    cond (slice_index bytes j == 33)
+    cond (stands 33 bytes j)
     (cond (same_word (slice bytes s) (codes "new"))
     ((read_gap ▷ (read_listed sc giving mention Shadow New)) bytes (j + 1))
     (refuse Missing at))
@@ -75,7 +75,7 @@ by_head sc at None = λ bytes i. refuse Name at
 abbrev pub read_row : Scope → Reader UnitRow
 read_row sc bytes at =
     and_then (read_name bytes at) (λ s j.
-    cond (slice_index bytes j == 33)
+    cond (stands 33 bytes j)
     (by_head sc at (head_of (slice bytes s)) bytes (j + 1))
     (and_then (known sc bytes s j) (λ v k. got (mention Value Current v) k)))
 
@@ -91,7 +91,7 @@ row_limit = 2000
 -- a term's opening bracket, with the limits that its row can pass: so much nesting is left, so many rows stand before it, the table has this room
 abbrev pub read_open : ℕ → ℕ → ℕ → Reader (Unit {0})
 read_open left room used bytes at =
-    and_then (read_byte 40 bytes at) (λ _ i.
+    and_then (read_mark (codes "(") bytes at) (λ _ i.
     cond (left == 0) (refuse Limit at) (cond (nat_le row_limit used) (refuse Limit at) (cond (nat_le room used) (refuse Table at) (got tt i))))
 
 -- a term up to its operands
@@ -100,7 +100,7 @@ read_begin sc left room used = read_open left room used ▷ (read_may_gap ▷ re
 
 -- a closing bracket, perhaps after a gap
 unfoldable pub read_close : Reader (Unit {0})
-read_close = read_may_gap ▷ read_byte 41
+read_close = read_may_gap ▷ read_mark (codes ")")
 
 -- a gap that must stand, or one that may
 abbrev pub read_lead : Bool → Reader (Unit {0})

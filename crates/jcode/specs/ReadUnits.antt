@@ -1,5 +1,6 @@
 -- Declarations and units: how they are read.
-use Rattle.std.specs.Prelude.{◌≡◌, ℕ, ◌+◌, min, Bool, false, cond, not, List, [], ◌∷◌, ◌++◌, map, length, drop, replicate, ℤ, pos, Some, None, Ok, Err, codes, Option, Result, ◌==◌, int_le, nat_lt, slice_index}
+use Rattle.std.specs.Prelude.{◌≡◌, ℕ, ◌+◌, min, Bool, false, cond, not, List, [], ◌∷◌, ◌++◌, map, length, drop, replicate, ℤ, pos, Some, None, Ok, Err, codes, Option, Result, int_le, nat_lt}
+use Rattle.std.specs.List.{list_any}
 use Rattle.terms.specs.declared.row.Row.TheVariants.{Constant}
 use Rattle.terms.specs.Words.{same_word, first_with}
 use Rattle.jcode.specs.declared.declaration_reader.DomainWord.{DomainWord}
@@ -17,9 +18,9 @@ use Rattle.jcode.specs.declared.statement_reader.Verb.{Verb}
 use Rattle.jcode.specs.declared.variable.Domain.{Domain}
 use Rattle.jcode.specs.declared.variable.Domain.TheVariants as domain
 use Rattle.jcode.specs.declared.variable.Variable.{Variable}
-use Rattle.jcode.specs.Bytes.{slice}
-use Rattle.jcode.specs.Pieces.{Answer, got, refused, Reader, refuse, and_then, ◌▷◌, ◌◁◌, ◌⊗◌, ◌giving◌, repeated, white_run, read_byte, read_gap, read_end, read_may_gap, read_word, read_name, read_keyword, read_number}
-use Rattle.jcode.specs.Scopes.{Scope, index_of, name_in}
+use Rattle.jcode.specs.Bytes.{slice, stands}
+use Rattle.jcode.specs.Pieces.{Answer, got, refused, Reader, refuse, and_then, ◌▷◌, ◌◁◌, ◌⊗◌, ◌giving◌, repeated, past_gap, read_mark, read_gap, read_end, read_may_gap, read_word, read_name, read_keyword, read_number}
+use Rattle.jcode.specs.Scopes.{Scope, name_in}
 use Rattle.jcode.specs.Tables.{put}
 use Rattle.jcode.specs.ReadTerms.{UnitRow, told_rows, read_close}
 use Rattle.jcode.specs.Sentences.{Sentence, rows_of, laid, verb_of}
@@ -51,10 +52,10 @@ read_domain bytes at = and_then (read_word bytes at) (λ s j. by_domain at (doma
 
 -- `: (variable (`
 unfoldable pub read_colon : Reader (Unit {0})
-read_colon = read_may_gap ▷ (read_byte 58 ▷ (read_may_gap ▷ read_byte 40))
+read_colon = read_may_gap ▷ (read_mark (codes ":") ▷ (read_may_gap ▷ read_mark (codes "(")))
 
 unfoldable pub read_class : Reader (Unit {0})
-read_class = read_may_gap ▷ (read_keyword (codes "variable") ▷ (read_may_gap ▷ (read_byte 40 ▷ read_may_gap)))
+read_class = read_may_gap ▷ (read_keyword (codes "variable") ▷ (read_may_gap ▷ (read_mark (codes "(") ▷ read_may_gap)))
 
 -- `))` and the end
 unfoldable pub read_closing : Reader (Unit {0})
@@ -66,19 +67,15 @@ read_declared = read_colon ▷ (read_class ▷ (read_domain ◁ read_closing))
 
 -- whether a word stands here that a colon follows, perhaps after a gap
 abbrev colon_after : List ℕ → Answer Span → Bool
-colon_after bytes (got s j) = slice_index bytes (j + white_run 32 bytes j) == 58
+colon_after bytes (got s j) = stands 58 bytes (past_gap bytes j)
 colon_after bytes (refused f) = false
 
 abbrev pub opens_declaration : List ℕ → ℕ → Bool
 opens_declaration bytes at = colon_after bytes (read_word bytes at)
 
-abbrev fresh : ℕ → Span → Option ℕ → ℕ → Answer Span
-fresh at s None j = got s j
-fresh at s (Some v) j = refuse Name at
-
 -- a name that none of these variables has
 unfoldable pub read_fresh : List Variable → Reader Span
-read_fresh seen bytes at = and_then (read_name bytes at) (λ s j. fresh at s (index_of (slice bytes s) (map (name_in bytes) seen)) j)
+read_fresh seen bytes at = and_then (read_name bytes at) (λ s j. cond (list_any (λ v. same_word (slice bytes s) (name_in bytes v)) seen) (refuse Name at) (got s j))
 
 abbrev pub read_declaration : List Variable → Reader Variable
 read_declaration seen = (read_fresh seen ⊗ λ _. read_declared) giving (λ p. record { name = p.0; domain = p.1 })

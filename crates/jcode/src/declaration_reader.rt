@@ -6,12 +6,10 @@ ghost use Rattle.jcode.specs.ReadUnits.{domain_of, read_high, read_bounds, read_
 
 use super::cursor::Cursor;
 use super::refusal::{ReadFault, Refusal};
-use super::scope::find_name;
+use super::scope::is_taken;
 use super::span::Span;
-use super::variable::{Domain, Variable};
+use super::variable::{Domain, VARIABLE_LIMIT, Variable};
 use terms::word::{Entry, lookup};
-
-const VARIABLE_LIMIT: usize = 32;
 
 // What refuses one record more than a table of this length can take.
 pub(super) fn full_by(table: usize, limit: usize) -> Refusal
@@ -25,7 +23,7 @@ pub(super) fn full_by(table: usize, limit: usize) -> Refusal
 }
 
 // The word of a variable's type.
-#[derive(Clone, Copy)]
+#[derive(Clone, Copy, Debug, PartialEq, Eq)]
 pub(super) enum DomainWord {
     Integer,
     Boolean,
@@ -46,6 +44,7 @@ fn find_domain(word: &[u8]) -> Option<DomainWord>
 
 impl Cursor<'_> {
     // A high bound, not below the low one.
+    #[tactic(auto, unfolding(crate::specs::ReadUnits::read_high))]
     fn high(&mut self, low: i64) -> Result<Domain, ReadFault>
         ensures { Reads (read_high low) self.old result self.new }
     {
@@ -66,6 +65,7 @@ impl Cursor<'_> {
         self.high(low)
     }
 
+    #[tactic(auto, unfolding(crate::specs::ReadUnits::read_domain))]
     fn domain(&mut self) -> Result<Domain, ReadFault>
         ensures { Reads read_domain self.old result self.new }
     {
@@ -83,9 +83,9 @@ impl Cursor<'_> {
         ensures { Reads read_colon self.old result self.new }
     {
         self.may_gap();
-        self.byte(b':')?;
+        self.mark(b":")?;
         self.may_gap();
-        self.byte(b'(')
+        self.mark(b"(")
     }
 
     fn class(&mut self) -> Result<(), ReadFault>
@@ -94,7 +94,7 @@ impl Cursor<'_> {
         self.may_gap();
         self.keyword(b"variable")?;
         self.may_gap();
-        self.byte(b'(')?;
+        self.mark(b"(")?;
         self.may_gap();
         Ok(())
     }
@@ -123,25 +123,24 @@ impl Cursor<'_> {
         ensures { result ≡ opens_declaration self.now.bytes.now self.now.at }
     {
         let mut ahead = *self;
-        match ahead.word() {
-            Ok(_) => {
-                ahead.may_gap();
-                ahead.peek() == b':'
-            }
-            Err(_) => false,
+        if ahead.word().is_err() {
+            return false;
         }
+        ahead.may_gap();
+        ahead.peek() == Some(b':')
     }
 
     // A name that none of these variables has.
+    #[tactic(auto, unfolding(crate::specs::ReadUnits::read_fresh))]
     fn fresh_name(&mut self, seen: &[Variable]) -> Result<Span, ReadFault>
         ensures { Reads (read_fresh seen.now) self.old result self.new }
     {
         let fault = self.fault(Refusal::Name);
         let name = self.name()?;
-        match find_name(self.bytes, seen, name.of(self.bytes)) {
-            None => Ok(name),
-            Some(_) => Err(fault),
+        if is_taken(self.bytes, seen, name.of(self.bytes)) {
+            return Err(fault);
         }
+        Ok(name)
     }
 
     fn declaration(&mut self, seen: &[Variable]) -> Result<Variable, ReadFault>
@@ -153,6 +152,7 @@ impl Cursor<'_> {
     }
 
     // A declaration, where the table may take one more.
+    #[tactic(auto, unfolding(crate::specs::ReadUnits::read_entry))]
     fn entry(&mut self, variables: &[Variable], count: usize) -> Result<Variable, ReadFault>
         ensures value { Reads (read_entry (full_by (length variables.now) 32) (nat_le (min (length variables.now) 32) count) (take count variables.now)) self.old result self.new }
         ensures within { OnOk result (count < min (length variables.now) 32) }

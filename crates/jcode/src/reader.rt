@@ -1,6 +1,6 @@
 // Reading a unit into three tables.
 
-ghost use Rattle.std.specs.Prelude.{◌≡◌, length, replicate};
+ghost use Rattle.std.specs.Prelude.{◌≡◌};
 ghost use Rattle.jcode.specs.Pieces.{Reads};
 ghost use Rattle.jcode.specs.ReadUnits.{read_heading, tables, read_unit, answered, left_by, attempted, achieved};
 
@@ -10,11 +10,11 @@ use super::refusal::ReadFault;
 use super::scope::Scope;
 use super::span::Span;
 use super::statement::{Listing, Statement};
-use super::variable::{Domain, Variable};
+use super::variable::Variable;
 use terms::row::Row;
 
 // What a reading tells of a unit: its name, how many records of each table it fills, and the byte after it.
-#[derive(Clone, Copy)]
+#[derive(Clone, Copy, Debug, Default, PartialEq, Eq)]
 pub struct Outline {
     pub name: Span,
     pub variables: usize,
@@ -32,15 +32,6 @@ impl Cursor<'_> {
         let name = self.name()?;
         self.end()?;
         Ok(name)
-    }
-}
-
-// Every record set to the same.
-fn fill<T: Copy>(table: &mut [T], blank: T)
-    ensures { table.new ≡ replicate (length table.old) blank }
-{
-    for place in table.iter_mut() {
-        *place = blank;
     }
 }
 
@@ -83,22 +74,11 @@ pub fn read(
     ensures result { result ≡ answered (read_unit (tables variables.old statements.old rows.old) bytes.now start) }
     ensures left { tables variables.new statements.new rows.new ≡ left_by (tables variables.old statements.old rows.old) (read_unit (tables variables.old statements.old rows.old) bytes.now start) }
 {
-    match attempt(bytes, start, variables, statements, rows) {
-        Ok(outline) => Ok(outline),
-        Err(fault) => {
-            fill(
-                variables,
-                Variable {
-                    name: Span {
-                        start: 0,
-                        length: 0,
-                    },
-                    domain: Domain::Integer,
-                },
-            );
-            fill(statements, Statement::Hang);
-            fill(rows, Row::Constant(0));
-            Err(fault)
-        }
+    let outline = attempt(bytes, start, variables, statements, rows);
+    if outline.is_err() {
+        variables.fill(Variable::default());
+        statements.fill(Statement::default());
+        rows.fill(Row::Constant(0));
     }
+    outline
 }

@@ -14,22 +14,18 @@ use super::mention::UnitRow;
 use super::refusal::{ReadFault, Refusal};
 use super::scope::{Scope, contains};
 use super::span::Span;
-use super::statement::{Listing, Statement, Term};
+use super::statement::{LIST_LIMIT, Listing, NESTING_LIMIT, STATEMENT_LIMIT, Statement, Term};
 use terms::word::{Entry, lookup, same_word};
 
-const NESTING: usize = 32;
-
-const STATEMENT_LIMIT: usize = 200;
-
 // How many statements and rows there are.
-#[derive(Clone, Copy)]
+#[derive(Clone, Copy, Debug, PartialEq, Eq)]
 pub(super) struct Counts {
     pub(super) statements: usize,
     pub(super) rows: usize,
 }
 
 // The word that a statement begins with.
-#[derive(Clone, Copy)]
+#[derive(Clone, Copy, Debug, PartialEq, Eq)]
 pub(super) enum Verb {
     Break,
     Require,
@@ -99,7 +95,7 @@ impl Cursor<'_> {
     fn single(&mut self, scope: Scope) -> Result<usize, ReadFault>
         ensures { Reads (read_single (scope_of scope.entry)) self.old result self.new }
     {
-        self.byte(b'(')?;
+        self.mark(b"(")?;
         self.may_gap();
         let variable = self.variable(scope)?;
         self.close()?;
@@ -107,6 +103,7 @@ impl Cursor<'_> {
     }
 
     // The name of this variable once more.
+    #[tactic(auto, unfolding(crate::specs::ReadStatements::read_again))]
     fn again(&mut self, scope: Scope, variable: usize) -> Result<(), ReadFault>
         ensures { Reads (read_again (scope_of scope.entry) variable) self.old result self.new }
     {
@@ -122,7 +119,7 @@ impl Cursor<'_> {
         ensures { Reads (read_repeated (scope_of scope.entry) variable) self.old result self.new }
     {
         self.may_gap();
-        self.byte(b'(')?;
+        self.mark(b"(")?;
         self.may_gap();
         self.again(scope, variable)?;
         self.close()
@@ -143,16 +140,17 @@ impl Cursor<'_> {
     {
         let mut ahead = *self;
         ahead.may_gap();
-        ahead.peek() != b')'
+        ahead.peek() != Some(b')')
     }
 
     // A variable for a list that may take it.
+    #[tactic(auto, unfolding(crate::specs::ReadStatements::read_unseen))]
     fn unseen(&mut self, scope: Scope, listing: Listing) -> Result<usize, ReadFault>
         ensures { Reads (read_unseen (scope_of scope.entry) (nat_le 8 listing.count) (listed_in listing)) self.old result self.new }
     {
         let limit = self.fault(Refusal::Limit);
         let known = self.fault(Refusal::Name);
-        if listing.count >= 8 {
+        if listing.count >= LIST_LIMIT {
             self.name()?;
             return Err(limit);
         }
@@ -182,7 +180,7 @@ impl Cursor<'_> {
     fn names(&mut self, scope: Scope) -> Result<Listing, ReadFault>
         ensures { Reads (read_names_listed (scope_of scope.entry)) self.old result self.new }
     {
-        if self.peek() == b')' {
+        if self.peek() == Some(b')') {
             self.at += 1;
             return Ok(Listing::EMPTY);
         }
@@ -194,7 +192,7 @@ impl Cursor<'_> {
     fn listing(&mut self, scope: Scope) -> Result<Listing, ReadFault>
         ensures { Reads (read_listed (scope_of scope.entry)) self.old result self.new }
     {
-        self.byte(b'(')?;
+        self.mark(b"(")?;
         self.may_gap();
         self.names(scope)
     }
@@ -209,7 +207,7 @@ impl Cursor<'_> {
         ensures value { ReadsTerm (read_expression (scope_of scope.entry) (length rows.old) used) used self.old rows.old result self.new rows.new }
         ensures within { IfOk result (λ t. used + t.rows < 2 ^ 64) }
     {
-        let next = self.term(scope, rows, used, NESTING)?;
+        let next = self.term(scope, rows, used, NESTING_LIMIT)?;
         Ok(Term {
             first: used,
             rows: next - used,
@@ -357,6 +355,7 @@ impl Cursor<'_> {
     }
 
     // A statement, where a table of this length may take one more.
+    #[tactic(auto, unfolding(crate::specs::ReadUnits::read_sentence))]
     fn sentence(
         &mut self,
         scope: Scope,
@@ -385,10 +384,9 @@ impl Cursor<'_> {
         ensures { result ≡ goes_on_unit self.now.bytes.now self.now.at }
     {
         let mut ahead = *self;
-        match ahead.word() {
-            Ok(word) => !same_word(word.of(self.bytes), b"END"),
-            Err(_) => true,
-        }
+        !ahead
+            .word()
+            .is_ok_and(|word| same_word(word.of(self.bytes), b"END"))
     }
 
     fn finish(&mut self) -> Result<(), ReadFault>

@@ -6,7 +6,7 @@ ghost use Rattle.jcode.specs.Scopes.{scope_of};
 ghost use Rattle.jcode.specs.ReadTerms.{head_of, mention, by_head, known, read_variable, read_listed, read_defined, read_row, operands_after, read_open, read_begin, read_close, read_lead, read_operands, read_term, ReadsRows};
 
 use super::cursor::Cursor;
-use super::mention::{Aspect, Mention, Stage, UnitRow};
+use super::mention::{Aspect, Mention, ROW_LIMIT, Stage, UnitRow};
 use super::refusal::{ReadFault, Refusal};
 use super::scope::{Scope, contains, find_name};
 use super::span::Span;
@@ -14,10 +14,8 @@ use terms::operator::{Operator, find};
 use terms::row::Row;
 use terms::word::{Entry, lookup, same_word};
 
-pub(super) const ROW_LIMIT: usize = 2_000;
-
 // What a word opens that `!` follows.
-#[derive(Clone, Copy)]
+#[derive(Clone, Copy, Debug, PartialEq, Eq)]
 pub(super) enum Head {
     Constant,
     Defined,
@@ -34,13 +32,7 @@ static MODIFIERS: [Entry<Head>; 3] = [
 fn find_head(word: &[u8]) -> Option<Head>
     ensures { result ≡ head_of word.now }
 {
-    match lookup(word, &MODIFIERS) {
-        Some(head) => Some(head),
-        None => match find(word) {
-            Some(operator) => Some(Head::Operator(operator)),
-            None => None,
-        },
-    }
+    lookup(word, &MODIFIERS).or_else(|| find(word).map(Head::Operator))
 }
 
 fn mentioned(variable: usize, aspect: Aspect, stage: Stage) -> UnitRow
@@ -65,16 +57,12 @@ fn operands_after(row: UnitRow) -> usize
 
 impl Cursor<'_> {
     // The variable that a name declares.
+    #[tactic(auto, using(crate::proofs::Names::position_map))]
     fn known(&self, scope: Scope, name: Span) -> Result<usize, ReadFault>
         ensures { told result self.now.at ≡ known (scope_of scope.entry) self.now.bytes.now name self.now.at }
     {
-        match find_name(scope.bytes, scope.variables, name.of(self.bytes)) {
-            Some(variable) => Ok(variable),
-            None => Err(ReadFault {
-                refusal: Refusal::Name,
-                place: name.start,
-            }),
-        }
+        let unknown = Refusal::Name.at(name.start);
+        find_name(scope.bytes, scope.variables, name.of(self.bytes)).ok_or(unknown)
     }
 
     pub(super) fn variable(&mut self, scope: Scope) -> Result<usize, ReadFault>
@@ -102,7 +90,7 @@ impl Cursor<'_> {
     {
         let fault = self.fault(Refusal::Missing);
         let name = self.name()?;
-        if self.peek() != b'!' {
+        if self.peek() != Some(b'!') {
             let variable = self.known(scope, name)?;
             return Ok(mentioned(variable, Aspect::Shadow, Stage::Current));
         }
@@ -140,10 +128,7 @@ impl Cursor<'_> {
                 Ok(mentioned(variable, Aspect::Value, Stage::New))
             }
             Some(Head::Operator(operator)) => Ok(Row::Operator(operator)),
-            None => Err(ReadFault {
-                refusal: Refusal::Name,
-                place,
-            }),
+            None => Err(Refusal::Name.at(place)),
         }
     }
 
@@ -153,7 +138,7 @@ impl Cursor<'_> {
     {
         let place = self.at;
         let name = self.name()?;
-        if self.peek() == b'!' {
+        if self.peek() == Some(b'!') {
             self.at += 1;
             return self.headed(scope, place, find_head(name.of(self.bytes)));
         }
@@ -168,7 +153,7 @@ impl Cursor<'_> {
     {
         let limit = self.fault(Refusal::Limit);
         let table = self.fault(Refusal::Table);
-        self.byte(b'(')?;
+        self.mark(b"(")?;
         if left == 0 || used >= ROW_LIMIT {
             return Err(limit);
         }
@@ -195,11 +180,12 @@ impl Cursor<'_> {
     }
 
     // A closing bracket, perhaps after a gap.
+    #[tactic(auto, unfolding(crate::specs::ReadTerms::read_close))]
     pub(super) fn close(&mut self) -> Result<(), ReadFault>
         ensures { Reads read_close self.old result self.new }
     {
         self.may_gap();
-        self.byte(b')')
+        self.mark(b")")
     }
 
     // A gap, which must stand ahead of the first operand.
