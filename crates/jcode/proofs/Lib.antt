@@ -7,6 +7,5 @@ pub mod Listings
 pub mod Laying
 pub mod Fillings
 pub mod Declarations
-pub mod Rooms
 pub mod Statements
 pub mod Units

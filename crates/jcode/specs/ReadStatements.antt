@@ -8,13 +8,13 @@ use Rattle.jcode.specs.declared.statement.Listing.{Listing}
 use Rattle.jcode.specs.declared.statement.Statement.{Statement}
 use Rattle.jcode.specs.declared.statement.Statement.TheVariants as stands
 use Rattle.jcode.specs.declared.statement.Term.{Term}
+use Rattle.jcode.specs.declared.table.Table.{Table}
 use Rattle.jcode.specs.declared.statement_reader.Verb.{Verb}
 use Rattle.jcode.specs.declared.statement_reader.Verb.TheVariants as verb
 use Rattle.jcode.specs.Bytes.{stands}
 use Rattle.jcode.specs.Pieces.{Answer, got, Reader, refuse, and_then, ◌▷◌, ◌◁◌, ◌⊗◌, ◌giving◌, repeated, past_gap, read_mark, read_gap, read_end, read_may_gap, read_name, read_label, read_text}
 use Rattle.jcode.specs.Scopes.{Scope, member}
-use Rattle.jcode.specs.Tables.{put}
-use Rattle.jcode.specs.ReadTerms.{UnitRow, told_rows, read_variable, read_close, read_term}
+use Rattle.jcode.specs.ReadTerms.{UnitRow, held, held_with, told_with, read_variable, read_close, read_term}
 use Rattle.jcode.specs.Sentences.{Sentence, Hang, Break, Require, Proclaim, New, Assign, Split, When, Branch, Join, rows_of, listing_of, term_at, laid}
 
 abbrev pub nesting : ℕ
@@ -113,15 +113,17 @@ abbrev pub read_branch : Reader Statement
 read_branch = (read_gap ▷ (read_text ⊗ λ _. read_label_end)) giving (λ p. stands.Branch p.0 p.1)
 
 -- a call on a cursor reads an expression into the row table
-pub record ReadsTerm (reader : Reader (List UnitRow)) (used : ℕ) (before : Cursor) (rows : List UnitRow) (result : Result Term ReadFault) (after : Cursor) (written : List UnitRow) : Type 0 where
-  pub value : told_rows result written after.at ≡ and_then (reader before.bytes.now before.at) (λ e j. got (term_at used e, put rows used e) j)
+pub record ReadsTerm (reader : Reader (List UnitRow)) (before : Cursor) (rows : Table UnitRow) (result : Result Term ReadFault) (after : Cursor) (left : Table UnitRow) : Type 0 where
+  pub value : told_with result (held left) after.at ≡ and_then (reader before.bytes.now before.at) (λ e j. got (term_at rows.count e, held_with rows e) j)
   pub same : after.bytes.now ≡ before.bytes.now
+  pub lent : left.records.ghost_name ≡ rows.records.ghost_name
 
 -- a statement that is read goes into the tables: its record, and its rows after those that are used
-abbrev pub laid_out : ℕ → List UnitRow → Answer (Sentence Span) → Answer (Statement × List UnitRow)
-laid_out used rows a = and_then a (λ s j. got (laid used s, put rows used (rows_of s)) j)
+abbrev pub laid_out : Table UnitRow → Answer (Sentence Span) → Answer (Statement × (ℕ × List UnitRow))
+laid_out rows a = and_then a (λ s j. got (laid rows.count s, held_with rows (rows_of s)) j)
 
 -- a call on a cursor reads a statement and lays out its rows
-pub record Lays (reader : Reader (Sentence Span)) (used : ℕ) (before : Cursor) (rows : List UnitRow) (result : Result Statement ReadFault) (after : Cursor) (written : List UnitRow) : Type 0 where
-  pub value : told_rows result written after.at ≡ laid_out used rows (reader before.bytes.now before.at)
+pub record Lays (reader : Reader (Sentence Span)) (before : Cursor) (rows : Table UnitRow) (result : Result Statement ReadFault) (after : Cursor) (left : Table UnitRow) : Type 0 where
+  pub value : told_with result (held left) after.at ≡ laid_out rows (reader before.bytes.now before.at)
   pub same : after.bytes.now ≡ before.bytes.now
+  pub lent : left.records.ghost_name ≡ rows.records.ghost_name

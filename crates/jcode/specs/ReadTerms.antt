@@ -14,6 +14,7 @@ use Rattle.jcode.specs.declared.mention.Stage.TheVariants.{Current, New}
 use Rattle.jcode.specs.declared.refusal.ReadFault.{ReadFault}
 use Rattle.jcode.specs.declared.refusal.Refusal.TheVariants.{Missing, Limit, Table, Name}
 use Rattle.jcode.specs.declared.span.Span.{Span}
+use Rattle.jcode.specs.declared.table.Table.{Table as CodeTable}
 use Rattle.jcode.specs.declared.term_reader.Head.{Head}
 use Rattle.jcode.specs.declared.term_reader.Head.TheVariants.{Constant as ConstantHead, Defined, New as NewHead, Operator as OperatorHead}
 use Rattle.jcode.specs.Bytes.{slice, stands}
@@ -126,16 +127,29 @@ abbrev pub read_term : Scope → ℕ → ℕ → ℕ → Reader (List UnitRow)
 read_term sc room zero used = read_begin sc zero room used giving (λ r. r ∷ [])
 read_term sc room (suc k) used = read_whole (read_begin sc (suc k) room used) (read_term sc room k) used
 
--- what a call that writes a table tells, with the table
-abbrev pub told_rows : {A X : Type 0} → Result A ReadFault → X → ℕ → Answer (A × X)
-told_rows (Ok a) rows j = got (a, rows) j
-told_rows (Err f) rows j = refused f
+-- how many records a table has, and its slice
+abbrev pub held : {X : Type 0} → CodeTable X → ℕ × List X
+held t = (t.count, t.records.now)
+
+-- the same with these records after its own
+abbrev pub held_with : {X : Type 0} → CodeTable X → List X → ℕ × List X
+held_with t xs = (t.count + length xs, put t.records.now t.count xs)
+
+-- what a call that writes a table tells, with what it leaves there, and what it leaves alone
+abbrev pub told_with : {A X : Type 0} → Result A ReadFault → X → ℕ → Answer (A × X)
+told_with (Ok a) left j = got (a, left) j
+told_with (Err f) left j = refused f
+
+abbrev pub leaves : {A X : Type 0} → Result A ReadFault → X → ℕ → Answer X
+leaves (Ok a) left j = got left j
+leaves (Err f) left j = refused f
 
 -- rows that are read go into the table, after those that are used
 abbrev pub stored : List UnitRow → ℕ → Answer (List UnitRow) → Answer (ℕ × List UnitRow)
 stored rows used a = and_then a (λ rs j. got (used + length rs, put rows used rs) j)
 
 -- a call on a cursor reads rows into the table
-pub record ReadsRows (reader : Reader (List UnitRow)) (used : ℕ) (before : Cursor) (rows : List UnitRow) (result : Result ℕ ReadFault) (after : Cursor) (written : List UnitRow) : Type 0 where
-  pub value : told_rows result written after.at ≡ stored rows used (reader before.bytes.now before.at)
+pub record ReadsRows (reader : Reader (List UnitRow)) (before : Cursor) (rows : CodeTable UnitRow) (result : Result (Unit {0}) ReadFault) (after : Cursor) (left : CodeTable UnitRow) : Type 0 where
+  pub value : leaves result (held left) after.at ≡ stored rows.records.now rows.count (reader before.bytes.now before.at)
   pub same : after.bytes.now ≡ before.bytes.now
+  pub lent : left.records.ghost_name ≡ rows.records.ghost_name

@@ -1,26 +1,17 @@
 // Reading declarations into the variable table.
 
-ghost use Rattle.std.specs.Prelude.{◌≡◌, ◌<◌, ◌≤◌, min, [], length, take, IfOk, OnOk, nat_le};
+ghost use Rattle.std.specs.Prelude.{◌≡◌, ◌<◌, ◌≤◌, min, [], length, take, OnOk, nat_le};
 ghost use Rattle.jcode.specs.Pieces.{Reads};
-ghost use Rattle.jcode.specs.ReadUnits.{domain_of, read_high, read_bounds, read_domain, read_colon, read_class, read_closing, read_declared, opens_declaration, read_fresh, read_declaration, read_entry, full_by, read_declarations, Fills};
+ghost use Rattle.jcode.specs.ReadUnits.{domain_of, read_high, read_bounds, read_domain, read_colon, read_class, read_closing, read_declared, opens_declaration, read_fresh, read_declaration, read_entry, read_declarations, Fills};
+ghost use Rattle.jcode.specs.Tables.{full_by};
 
 use super::cursor::Cursor;
 use super::refusal::{ReadFault, Refusal};
 use super::scope::is_taken;
 use super::span::Span;
+use super::table::Table;
 use super::variable::{Domain, VARIABLE_LIMIT, Variable};
 use terms::word::{Entry, lookup};
-
-// What refuses one record more than a table of this length can take.
-pub(super) fn full_by(table: usize, limit: usize) -> Refusal
-    ensures { result ≡ full_by table limit }
-{
-    if table < limit {
-        Refusal::Table
-    } else {
-        Refusal::Limit
-    }
-}
 
 // The word of a variable's type.
 #[derive(Clone, Copy, Debug, PartialEq, Eq)]
@@ -153,29 +144,27 @@ impl Cursor<'_> {
 
     // A declaration, where the table may take one more.
     #[tactic(auto, unfolding(crate::specs::ReadUnits::read_entry))]
-    fn entry(&mut self, variables: &[Variable], count: usize) -> Result<Variable, ReadFault>
-        ensures value { Reads (read_entry (full_by (length variables.now) 32) (nat_le (min (length variables.now) 32) count) (take count variables.now)) self.old result self.new }
-        ensures within { OnOk result (count < min (length variables.now) 32) }
+    fn entry(&mut self, variables: &Table<Variable>) -> Result<Variable, ReadFault>
+        ensures value { Reads (read_entry (full_by (length variables.now.records.now) 32) (nat_le (min (length variables.now.records.now) 32) variables.now.count) (take variables.now.count variables.now.records.now)) self.old result self.new }
+        ensures within { OnOk result (variables.now.count < min (length variables.now.records.now) 32) }
     {
-        let fault = self.fault(full_by(variables.len(), VARIABLE_LIMIT));
-        if count >= variables.len().min(VARIABLE_LIMIT) {
+        if let Some(refusal) = variables.refusal(VARIABLE_LIMIT) {
+            let fault = self.fault(refusal);
             self.name()?;
             return Err(fault);
         }
-        self.declaration(&variables[0..count])
+        self.declaration(variables.filled())
     }
 
-    // All declarations, into the table; their number is told.
-    pub(super) fn declarations(&mut self, variables: &mut [Variable]) -> Result<usize, ReadFault>
-        ensures value { Fills (read_declarations (length variables.old) (min (length variables.old) 32) []) self.old variables.old result self.new variables.new }
-        ensures within { IfOk result (λ n. n ≤ length variables.old) }
+    // All declarations, into the table.
+    pub(super) fn declarations(&mut self, variables: &mut Table<Variable>) -> Result<(), ReadFault>
+        requires { variables.old.count ≡ 0 }
+        ensures { Fills (read_declarations (length variables.old.records.now) (min (length variables.old.records.now) 32) []) self.old variables.old result self.new variables.new }
     {
-        let mut count = 0;
         while self.opens_declaration() {
-            let variable = self.entry(variables, count)?;
-            variables[count] = variable;
-            count += 1;
+            let variable = self.entry(variables)?;
+            variables.push(variable);
         }
-        Ok(count)
+        Ok(())
     }
 }

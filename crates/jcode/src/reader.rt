@@ -10,6 +10,7 @@ use super::refusal::ReadFault;
 use super::scope::Scope;
 use super::span::Span;
 use super::statement::{Listing, Statement};
+use super::table::Table;
 use super::variable::Variable;
 use terms::row::Row;
 
@@ -35,30 +36,34 @@ impl Cursor<'_> {
     }
 }
 
-// Reads a unit; where it is refused, the tables hold what was read of it.
+// Reads a unit into empty tables; where it is refused, they hold what was read of it.
 fn attempt(
     bytes: &[u8],
     start: usize,
-    variables: &mut [Variable],
-    statements: &mut [Statement],
-    rows: &mut [UnitRow],
+    variables: &mut Table<Variable>,
+    statements: &mut Table<Statement>,
+    rows: &mut Table<UnitRow>,
 ) -> Result<Outline, ReadFault>
-    ensures { attempted result (tables variables.new statements.new rows.new) ≡ achieved (tables variables.old statements.old rows.old) (read_unit (tables variables.old statements.old rows.old) bytes.now start) }
+    requires { (variables.old.count ≡ 0) × (statements.old.count ≡ 0) × (rows.old.count ≡ 0) }
+    ensures value { attempted result (tables variables.new.records.now statements.new.records.now rows.new.records.now) ≡ achieved (tables variables.old.records.now statements.old.records.now rows.old.records.now) (read_unit (tables variables.old.records.now statements.old.records.now rows.old.records.now) bytes.now start) }
+    ensures variables_lent { variables.new.records.ghost_name ≡ variables.old.records.ghost_name }
+    ensures statements_lent { statements.new.records.ghost_name ≡ statements.old.records.ghost_name }
+    ensures rows_lent { rows.new.records.ghost_name ≡ rows.old.records.ghost_name }
 {
     let mut cursor = Cursor { bytes, at: start };
     let name = cursor.heading()?;
-    let declared = cursor.declarations(variables)?;
+    cursor.declarations(variables)?;
     let scope = Scope {
         bytes,
-        variables: &variables[0..declared],
+        variables: variables.filled(),
         listing: Listing::EMPTY,
     };
-    let counts = cursor.statements(scope, statements, rows)?;
+    cursor.statements(scope, statements, rows)?;
     Ok(Outline {
         name,
-        variables: declared,
-        statements: counts.statements,
-        rows: counts.rows,
+        variables: variables.count,
+        statements: statements.count,
+        rows: rows.count,
         next: cursor.at,
     })
 }
@@ -74,7 +79,13 @@ pub fn read(
     ensures result { result ≡ answered (read_unit (tables variables.old statements.old rows.old) bytes.now start) }
     ensures left { tables variables.new statements.new rows.new ≡ left_by (tables variables.old statements.old rows.old) (read_unit (tables variables.old statements.old rows.old) bytes.now start) }
 {
-    let outline = attempt(bytes, start, variables, statements, rows);
+    let outline = attempt(
+        bytes,
+        start,
+        &mut Table::new(variables),
+        &mut Table::new(statements),
+        &mut Table::new(rows),
+    );
     if outline.is_err() {
         variables.fill(Variable::default());
         statements.fill(Statement::default());

@@ -10,6 +10,7 @@ use super::mention::{Aspect, Mention, ROW_LIMIT, Stage, UnitRow};
 use super::refusal::{ReadFault, Refusal};
 use super::scope::{Scope, contains, find_name};
 use super::span::Span;
+use super::table::Table;
 use terms::operator::{Operator, find};
 use terms::row::Row;
 use terms::word::{Entry, lookup, same_word};
@@ -147,34 +148,32 @@ impl Cursor<'_> {
     }
 
     // A term's opening bracket, with the limits that its row can pass.
-    fn open(&mut self, left: usize, room: usize, used: usize) -> Result<(), ReadFault>
-        ensures value { Reads (read_open left room used) self.old result self.new }
-        ensures within { OnOk result ((0 < left) × (used < room)) }
+    fn open(&mut self, rows: &Table<UnitRow>, left: usize) -> Result<(), ReadFault>
+        ensures value { Reads (read_open left (length rows.now.records.now) rows.now.count) self.old result self.new }
+        ensures within { OnOk result ((0 < left) × (rows.now.count < length rows.now.records.now)) }
     {
-        let limit = self.fault(Refusal::Limit);
-        let table = self.fault(Refusal::Table);
+        let place = self.at;
         self.mark(b"(")?;
-        if left == 0 || used >= ROW_LIMIT {
-            return Err(limit);
+        if left == 0 {
+            return Err(Refusal::Limit.at(place));
         }
-        if used >= room {
-            return Err(table);
+        match rows.refusal(ROW_LIMIT) {
+            Some(refusal) => Err(refusal.at(place)),
+            None => Ok(()),
         }
-        Ok(())
     }
 
     // A term up to its operands.
     fn begin(
         &mut self,
         scope: Scope,
+        rows: &Table<UnitRow>,
         left: usize,
-        room: usize,
-        used: usize,
     ) -> Result<UnitRow, ReadFault>
-        ensures value { Reads (read_begin (scope_of scope.entry) left room used) self.old result self.new }
-        ensures within { OnOk result ((0 < left) × (used < room)) }
+        ensures value { Reads (read_begin (scope_of scope.entry) left (length rows.now.records.now) rows.now.count) self.old result self.new }
+        ensures within { OnOk result ((0 < left) × (rows.now.count < length rows.now.records.now)) }
     {
-        self.open(left, room, used)?;
+        self.open(rows, left)?;
         self.may_gap();
         self.row(scope)
     }
@@ -199,22 +198,20 @@ impl Cursor<'_> {
         Ok(())
     }
 
-    // A term, with so much nesting left; it goes into the table after the rows that are used, and the rows used then are told.
+    // A term, with so much nesting left, into the table.
     #[cycle(operands_term)]
     pub(super) fn term(
         &mut self,
         scope: Scope,
-        rows: &mut [UnitRow],
-        used: usize,
+        rows: &mut Table<UnitRow>,
         left: usize,
-    ) -> Result<usize, ReadFault>
-        ensures { ReadsRows (read_term (scope_of scope.entry) (length rows.old) left used) used self.old rows.old result self.new rows.new }
+    ) -> Result<(), ReadFault>
+        ensures { ReadsRows (read_term (scope_of scope.entry) (length rows.old.records.now) left rows.old.count) self.old rows.old result self.new rows.new }
     {
-        let row = self.begin(scope, left, rows.len(), used)?;
-        rows[used] = row;
-        let used = self.operands(scope, rows, used + 1, left - 1, operands_after(row))?;
-        self.close()?;
-        Ok(used)
+        let row = self.begin(scope, rows, left)?;
+        rows.push(row);
+        self.operands(scope, rows, left - 1, operands_after(row))?;
+        self.close()
     }
 
     // So many terms, the first after a gap.
@@ -222,18 +219,16 @@ impl Cursor<'_> {
     fn operands(
         &mut self,
         scope: Scope,
-        rows: &mut [UnitRow],
-        used: usize,
+        rows: &mut Table<UnitRow>,
         left: usize,
         count: usize,
-    ) -> Result<usize, ReadFault>
-        ensures { ReadsRows (read_operands (read_term (scope_of scope.entry) (length rows.old) left) count true used) used self.old rows.old result self.new rows.new }
+    ) -> Result<(), ReadFault>
+        ensures { ReadsRows (read_operands (read_term (scope_of scope.entry) (length rows.old.records.now) left) count true rows.old.count) self.old rows.old result self.new rows.new }
     {
-        let mut used = used;
         for i in 0..count {
             self.lead(i == 0)?;
-            used = self.term(scope, rows, used, left)?;
+            self.term(scope, rows, left)?;
         }
-        Ok(used)
+        Ok(())
     }
 }
