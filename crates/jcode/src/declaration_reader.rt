@@ -47,6 +47,7 @@ impl Cursor<'_> {
         Ok(Domain::Subrange { low, high })
     }
 
+    #[tactic(auto, unfolding(crate::specs::ReadUnits::read_bounds))]
     fn bounds(&mut self) -> Result<Domain, ReadFault>
         ensures { Reads read_bounds self.old result self.new }
     {
@@ -70,6 +71,7 @@ impl Cursor<'_> {
         }
     }
 
+    #[tactic(auto, unfolding(crate::specs::ReadUnits::read_colon))]
     fn colon(&mut self) -> Result<(), ReadFault>
         ensures { Reads read_colon self.old result self.new }
     {
@@ -79,6 +81,7 @@ impl Cursor<'_> {
         self.mark(b"(")
     }
 
+    #[tactic(auto, unfolding(crate::specs::ReadUnits::read_class))]
     fn class(&mut self) -> Result<(), ReadFault>
         ensures { Reads read_class self.old result self.new }
     {
@@ -90,6 +93,7 @@ impl Cursor<'_> {
         Ok(())
     }
 
+    #[tactic(auto, unfolding(crate::specs::ReadUnits::read_closing))]
     fn closing(&mut self) -> Result<(), ReadFault>
         ensures { Reads read_closing self.old result self.new }
     {
@@ -99,6 +103,7 @@ impl Cursor<'_> {
     }
 
     // What follows a declaration's name.
+    #[tactic(auto, unfolding(crate::specs::ReadUnits::read_declared))]
     fn declared(&mut self) -> Result<Domain, ReadFault>
         ensures { Reads read_declared self.old result self.new }
     {

@@ -25,6 +25,7 @@ pub struct Outline {
 }
 
 impl Cursor<'_> {
+    #[tactic(auto, unfolding(crate::specs::ReadUnits::read_heading))]
     fn heading(&mut self) -> Result<Span, ReadFault>
         ensures { Reads read_heading self.old result self.new }
     {

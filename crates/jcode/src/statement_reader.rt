@@ -53,6 +53,7 @@ pub(super) fn find_verb(word: &[u8]) -> Option<Verb>
 }
 
 impl Cursor<'_> {
+    #[tactic(auto, unfolding(crate::specs::ReadStatements::read_text_end))]
     fn text_end(&mut self) -> Result<Span, ReadFault>
         ensures { Reads read_text_end self.old result self.new }
     {
@@ -62,6 +63,7 @@ impl Cursor<'_> {
         Ok(text)
     }
 
+    #[tactic(auto, unfolding(crate::specs::ReadStatements::read_label_end))]
     fn label_end(&mut self) -> Result<u16, ReadFault>
         ensures { Reads read_label_end self.old result self.new }
     {
@@ -72,6 +74,7 @@ impl Cursor<'_> {
     }
 
     // A name in brackets.
+    #[tactic(auto, unfolding(crate::specs::ReadStatements::read_single))]
     fn single(&mut self, scope: Scope) -> Result<usize, ReadFault>
         ensures { Reads (read_single (scope_of scope.entry)) self.old result self.new }
     {
@@ -95,6 +98,7 @@ impl Cursor<'_> {
         Ok(())
     }
 
+    #[tactic(auto, unfolding(crate::specs::ReadStatements::read_repeated))]
     fn repeated(&mut self, scope: Scope, variable: usize) -> Result<(), ReadFault>
         ensures { Reads (read_repeated (scope_of scope.entry) variable) self.old result self.new }
     {
@@ -257,6 +261,7 @@ impl Cursor<'_> {
         Ok(Statement::When { condition, label })
     }
 
+    #[tactic(auto, unfolding(crate::specs::ReadStatements::read_gap_label))]
     fn label_after_gap(&mut self) -> Result<u16, ReadFault>
         ensures { Reads read_gap_label self.old result self.new }
     {
@@ -339,6 +344,7 @@ impl Cursor<'_> {
             .is_ok_and(|word| same_word(word.of(self.bytes), b"END"))
     }
 
+    #[tactic(auto, unfolding(crate::specs::ReadUnits::read_finish))]
     fn finish(&mut self) -> Result<(), ReadFault>
         ensures { Reads read_finish self.old result self.new }
     {

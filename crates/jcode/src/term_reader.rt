@@ -164,6 +164,7 @@ impl Cursor<'_> {
     }
 
     // A term up to its operands.
+    #[tactic(auto, unfolding(crate::specs::ReadTerms::read_begin))]
     fn begin(
         &mut self,
         scope: Scope,
