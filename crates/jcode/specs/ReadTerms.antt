@@ -65,19 +65,22 @@ read_defined sc bytes at =
     (and_then (known sc bytes s j) (λ v k. got (mention Shadow Current v) k)))
 
 -- what follows a word and its `!`, up to the operands
-abbrev pub by_head : Scope → ℕ → Option Head → Reader UnitRow
-by_head sc at (Some ConstantHead) = read_gap ▷ (read_number giving Constant)
-by_head sc at (Some Defined) = read_gap ▷ read_defined sc
-by_head sc at (Some NewHead) = read_gap ▷ (read_listed sc giving mention Value New)
-by_head sc at (Some (OperatorHead o)) = λ bytes i. got (Applied o) i
-by_head sc at None = λ bytes i. refuse Name at
+abbrev pub by_head : Scope → Head → Reader UnitRow
+by_head sc ConstantHead = read_gap ▷ (read_number giving Constant)
+by_head sc Defined = read_gap ▷ read_defined sc
+by_head sc NewHead = read_gap ▷ (read_listed sc giving mention Value New)
+by_head sc (OperatorHead o) = λ bytes i. got (Applied o) i
+
+abbrev pub by_head_found : Scope → ℕ → Option Head → Reader UnitRow
+by_head_found sc at (Some h) bytes i = by_head sc h bytes i
+by_head_found sc at None bytes i = refuse Name at
 
 -- the row that a term begins with
 abbrev pub read_row : Scope → Reader UnitRow
 read_row sc bytes at =
     and_then (read_name bytes at) (λ s j.
     cond (stands 33 bytes j)
-    (by_head sc at (head_of (slice bytes s)) bytes (j + 1))
+    (by_head_found sc at (head_of (slice bytes s)) bytes (j + 1))
     (and_then (known sc bytes s j) (λ v k. got (mention Value Current v) k)))
 
 -- how many operands follow a row

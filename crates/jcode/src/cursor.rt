@@ -159,12 +159,11 @@ impl Cursor<'_> {
     pub(super) fn keyword(&mut self, wanted: &[u8]) -> Result<(), ReadFault>
         ensures { Reads (read_keyword wanted.now) self.old result self.new }
     {
-        let fault = self.fault(Refusal::Missing);
         let word = self.word()?;
-        if same_word(word.of(self.bytes), wanted) {
-            return Ok(());
+        if !same_word(word.of(self.bytes), wanted) {
+            return Err(Refusal::Missing.at(word.start));
         }
-        Err(fault)
+        Ok(())
     }
 
     // A number from `low` to `high` in decimal digits; a fault is laid at `place`.

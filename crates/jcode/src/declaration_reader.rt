@@ -2,15 +2,14 @@
 
 ghost use Rattle.std.specs.Prelude.{◌≡◌, ◌<◌, ◌≤◌, min, [], length, take, OnOk, nat_le};
 ghost use Rattle.jcode.specs.Pieces.{Reads};
-ghost use Rattle.jcode.specs.ReadUnits.{domain_of, read_high, read_bounds, read_domain, read_colon, read_class, read_closing, read_declared, opens_declaration, read_fresh, read_declaration, read_entry, read_declarations, Fills};
+ghost use Rattle.jcode.specs.ReadUnits.{domain_of, read_high, read_bounds, read_domain, read_colon, read_class, read_closing, read_declared, opens_declaration, read_fresh, read_declaration, read_entry, variable_limit, read_declarations, Fills};
 ghost use Rattle.jcode.specs.Tables.{full_by};
 
 use super::cursor::Cursor;
 use super::refusal::{ReadFault, Refusal};
-use super::scope::is_taken;
 use super::span::Span;
 use super::table::Table;
-use super::variable::{Domain, VARIABLE_LIMIT, Variable};
+use super::variable::{Domain, VARIABLE_LIMIT, Variable, is_taken};
 use terms::word::{Entry, lookup};
 
 // The word of a variable's type.
@@ -27,10 +26,12 @@ static DOMAINS: [Entry<DomainWord>; 3] = [
     Entry(b"subrange", DomainWord::Subrange),
 ];
 
-fn find_domain(word: &[u8]) -> Option<DomainWord>
-    ensures { result ≡ domain_of word.now }
-{
-    lookup(word, &DOMAINS)
+impl DomainWord {
+    fn find(word: &[u8]) -> Option<DomainWord>
+        ensures { result ≡ domain_of word.now }
+    {
+        lookup(word, &DOMAINS)
+    }
 }
 
 impl Cursor<'_> {
@@ -39,10 +40,10 @@ impl Cursor<'_> {
     fn high(&mut self, low: i64) -> Result<Domain, ReadFault>
         ensures { Reads (read_high low) self.old result self.new }
     {
-        let fault = self.fault(Refusal::Number);
+        let place = self.at;
         let high = self.number()?;
         if low > high {
-            return Err(fault);
+            return Err(Refusal::Number.at(place));
         }
         Ok(Domain::Subrange { low, high })
     }
@@ -61,13 +62,12 @@ impl Cursor<'_> {
     fn domain(&mut self) -> Result<Domain, ReadFault>
         ensures { Reads read_domain self.old result self.new }
     {
-        let fault = self.fault(Refusal::Missing);
+        let place = self.at;
         let word = self.word()?;
-        match find_domain(word.of(self.bytes)) {
-            Some(DomainWord::Integer) => Ok(Domain::Integer),
-            Some(DomainWord::Boolean) => Ok(Domain::Boolean),
-            Some(DomainWord::Subrange) => self.bounds(),
-            None => Err(fault),
+        match DomainWord::find(word.of(self.bytes)).ok_or(Refusal::Missing.at(place))? {
+            DomainWord::Integer => Ok(Domain::Integer),
+            DomainWord::Boolean => Ok(Domain::Boolean),
+            DomainWord::Subrange => self.bounds(),
         }
     }
 
@@ -131,10 +131,9 @@ impl Cursor<'_> {
     fn fresh_name(&mut self, seen: &[Variable]) -> Result<Span, ReadFault>
         ensures { Reads (read_fresh seen.now) self.old result self.new }
     {
-        let fault = self.fault(Refusal::Name);
         let name = self.name()?;
-        if is_taken(self.bytes, seen, name.of(self.bytes)) {
-            return Err(fault);
+        if is_taken(seen, self.bytes, name.of(self.bytes)) {
+            return Err(Refusal::Name.at(name.start));
         }
         Ok(name)
     }
@@ -150,13 +149,12 @@ impl Cursor<'_> {
     // A declaration, where the table may take one more.
     #[tactic(auto, unfolding(crate::specs::ReadUnits::read_entry))]
     fn entry(&mut self, variables: &Table<Variable>) -> Result<Variable, ReadFault>
-        ensures value { Reads (read_entry (full_by (length variables.now.records.now) 32) (nat_le (min (length variables.now.records.now) 32) variables.now.count) (take variables.now.count variables.now.records.now)) self.old result self.new }
-        ensures within { OnOk result (variables.now.count < min (length variables.now.records.now) 32) }
+        ensures value { Reads (read_entry (full_by (length variables.now.records.now) variable_limit) (nat_le (min (length variables.now.records.now) variable_limit) variables.now.count) (take variables.now.count variables.now.records.now)) self.old result self.new }
+        ensures within { OnOk result (variables.now.count < min (length variables.now.records.now) variable_limit) }
     {
         if let Some(refusal) = variables.refusal(VARIABLE_LIMIT) {
-            let fault = self.fault(refusal);
-            self.name()?;
-            return Err(fault);
+            let name = self.name()?;
+            return Err(refusal.at(name.start));
         }
         self.declaration(variables.filled())
     }
@@ -164,7 +162,7 @@ impl Cursor<'_> {
     // All declarations, into the table.
     pub(super) fn declarations(&mut self, variables: &mut Table<Variable>) -> Result<(), ReadFault>
         requires { variables.old.count ≡ 0 }
-        ensures { Fills (read_declarations (length variables.old.records.now) (min (length variables.old.records.now) 32) []) self.old variables.old result self.new variables.new }
+        ensures { Fills (read_declarations (length variables.old.records.now) (min (length variables.old.records.now) variable_limit) []) self.old variables.old result self.new variables.new }
     {
         while self.opens_declaration() {
             let variable = self.entry(variables)?;

@@ -1,7 +1,6 @@
 // Scopes: the variables that a term can mention.
 
 ghost use Rattle.std.specs.Prelude.{◌≡◌, position};
-ghost use Rattle.std.specs.List.{list_any};
 ghost use Rattle.terms.specs.Words.{same_word};
 ghost use Rattle.jcode.specs.Scopes.{name_in, member, listed_in, pushed};
 
@@ -16,22 +15,15 @@ pub struct Scope<'a> {
     pub listing: Listing,
 }
 
-// The number of the variable with this name.
-pub(super) fn find_name(bytes: &[u8], variables: &[Variable], name: &[u8]) -> Option<usize>
-    ensures { result ≡ position (λ v. same_word name.now (name_in bytes.now v)) variables.now }
-{
-    variables
-        .iter()
-        .position(|variable| variable.is_named(bytes, name))
-}
-
-// Whether one of the variables has this name.
-pub(super) fn is_taken(bytes: &[u8], variables: &[Variable], name: &[u8]) -> bool
-    ensures { result ≡ list_any (λ v. same_word name.now (name_in bytes.now v)) variables.now }
-{
-    variables
-        .iter()
-        .any(|variable| variable.is_named(bytes, name))
+impl Scope<'_> {
+    // The number of the variable with this name.
+    pub(super) fn find(self, name: &[u8]) -> Option<usize>
+        ensures { result ≡ position (λ v. same_word name.now (name_in self.entry.bytes.now v)) self.entry.variables.now }
+    {
+        self.variables
+            .iter()
+            .position(|variable| variable.is_named(self.bytes, name))
+    }
 }
 
 pub fn contains(variables: &[usize], variable: usize) -> bool

@@ -6,7 +6,7 @@ ghost use Rattle.jcode.specs.Pieces.{Reads};
 ghost use Rattle.jcode.specs.Scopes.{scope_of, listed_in};
 ghost use Rattle.jcode.specs.Sentences.{verb_of};
 ghost use Rattle.jcode.specs.Tables.{full_by};
-ghost use Rattle.jcode.specs.ReadUnits.{read_sentence, goes_on as goes_on_unit, read_finish, LaysAll};
+ghost use Rattle.jcode.specs.ReadUnits.{statement_limit, read_sentence, goes_on as goes_on_unit, read_finish, LaysAll};
 ghost use Rattle.jcode.specs.ReadStatements.{read_single, read_again, read_repeated, read_target, goes_on, read_unseen, read_more_listed, read_names_listed, read_listed, read_text_end, read_label_end, read_gap_label, read_branch, read_expression, ReadsTerm, by_verb, Lays};
 
 use super::cursor::Cursor;
@@ -46,10 +46,12 @@ static VERBS: [Entry<Verb>; 10] = [
     Entry(b"HANG", Verb::Hang),
 ];
 
-pub(super) fn find_verb(word: &[u8]) -> Option<Verb>
-    ensures { result ≡ verb_of word.now }
-{
-    lookup(word, &VERBS)
+impl Verb {
+    fn find(word: &[u8]) -> Option<Verb>
+        ensures { result ≡ verb_of word.now }
+    {
+        lookup(word, &VERBS)
+    }
 }
 
 impl Cursor<'_> {
@@ -90,10 +92,10 @@ impl Cursor<'_> {
     fn again(&mut self, scope: Scope, variable: usize) -> Result<(), ReadFault>
         ensures { Reads (read_again (scope_of scope.entry) variable) self.old result self.new }
     {
-        let fault = self.fault(Refusal::Name);
+        let place = self.at;
         let other = self.variable(scope)?;
         if other != variable {
-            return Err(fault);
+            return Err(Refusal::Name.at(place));
         }
         Ok(())
     }
@@ -130,17 +132,16 @@ impl Cursor<'_> {
     // A variable for a list that may take it.
     #[tactic(auto, unfolding(crate::specs::ReadStatements::read_unseen))]
     fn unseen(&mut self, scope: Scope, listing: Listing) -> Result<usize, ReadFault>
-        ensures { Reads (read_unseen (scope_of scope.entry) (nat_le 8 listing.count) (listed_in listing)) self.old result self.new }
+        ensures { Reads (read_unseen (scope_of scope.entry) (nat_le LIST_LIMIT listing.count) (listed_in listing)) self.old result self.new }
     {
-        let limit = self.fault(Refusal::Limit);
-        let known = self.fault(Refusal::Name);
+        let place = self.at;
         if listing.count >= LIST_LIMIT {
             self.name()?;
-            return Err(limit);
+            return Err(Refusal::Limit.at(place));
         }
         let variable = self.variable(scope)?;
         if contains(listing.listed(), variable) {
-            return Err(known);
+            return Err(Refusal::Name.at(place));
         }
         Ok(variable)
     }
@@ -221,12 +222,7 @@ impl Cursor<'_> {
         self.gap()?;
         let listing = self.listing(scope)?;
         self.may_gap();
-        let within = Scope {
-            bytes: scope.bytes,
-            variables: scope.variables,
-            listing,
-        };
-        let condition = self.expression(within, rows)?;
+        let condition = self.expression(Scope { listing, ..scope }, rows)?;
         let text = self.text_end()?;
         Ok(Statement::New {
             listing,
@@ -320,14 +316,12 @@ impl Cursor<'_> {
         statements: &Table<Statement>,
         rows: &mut Table<UnitRow>,
     ) -> Result<Statement, ReadFault>
-        ensures value { Lays (read_sentence (scope_of scope.entry) (length rows.old.records.now) (full_by (length statements.now.records.now) 200) (nat_le (min (length statements.now.records.now) 200) statements.now.count) rows.old.count) self.old rows.old result self.new rows.new }
-        ensures within { OnOk result (statements.now.count < min (length statements.now.records.now) 200) }
+        ensures value { Lays (read_sentence (scope_of scope.entry) (length rows.old.records.now) (full_by (length statements.now.records.now) statement_limit) (nat_le (min (length statements.now.records.now) statement_limit) statements.now.count) rows.old.count) self.old rows.old result self.new rows.new }
+        ensures within { OnOk result (statements.now.count < min (length statements.now.records.now) statement_limit) }
     {
         let place = self.at;
         let word = self.word()?;
-        let Some(verb) = find_verb(word.of(self.bytes)) else {
-            return Err(Refusal::Missing.at(place));
-        };
+        let verb = Verb::find(word.of(self.bytes)).ok_or(Refusal::Missing.at(place))?;
         if let Some(refusal) = statements.refusal(STATEMENT_LIMIT) {
             return Err(refusal.at(place));
         }

@@ -8,7 +8,7 @@ ghost use Rattle.jcode.specs.ReadTerms.{head_of, mention, by_head, known, read_v
 use super::cursor::Cursor;
 use super::mention::{Aspect, Mention, ROW_LIMIT, Stage, UnitRow};
 use super::refusal::{ReadFault, Refusal};
-use super::scope::{Scope, contains, find_name};
+use super::scope::{Scope, contains};
 use super::span::Span;
 use super::table::Table;
 use terms::operator::{Operator, find};
@@ -30,10 +30,12 @@ static MODIFIERS: [Entry<Head>; 3] = [
     Entry(b"new", Head::New),
 ];
 
-fn find_head(word: &[u8]) -> Option<Head>
-    ensures { result ≡ head_of word.now }
-{
-    lookup(word, &MODIFIERS).or_else(|| find(word).map(Head::Operator))
+impl Head {
+    fn find(word: &[u8]) -> Option<Head>
+        ensures { result ≡ head_of word.now }
+    {
+        lookup(word, &MODIFIERS).or_else(|| find(word).map(Head::Operator))
+    }
 }
 
 fn mentioned(variable: usize, aspect: Aspect, stage: Stage) -> UnitRow
@@ -63,7 +65,7 @@ impl Cursor<'_> {
         ensures { told result self.now.at ≡ known (scope_of scope.entry) self.now.bytes.now name self.now.at }
     {
         let unknown = Refusal::Name.at(name.start);
-        find_name(scope.bytes, scope.variables, name.of(self.bytes)).ok_or(unknown)
+        scope.find(name.of(self.bytes)).ok_or(unknown)
     }
 
     pub(super) fn variable(&mut self, scope: Scope) -> Result<usize, ReadFault>
@@ -77,19 +79,18 @@ impl Cursor<'_> {
     fn listed(&mut self, scope: Scope) -> Result<usize, ReadFault>
         ensures { Reads (read_listed (scope_of scope.entry)) self.old result self.new }
     {
-        let fault = self.fault(Refusal::Name);
+        let place = self.at;
         let variable = self.variable(scope)?;
-        if contains(scope.listing.listed(), variable) {
-            return Ok(variable);
+        if !contains(scope.listing.listed(), variable) {
+            return Err(Refusal::Name.at(place));
         }
-        Err(fault)
+        Ok(variable)
     }
 
     // What follows `defined!`: a variable, or `new!` and a listed one.
     fn defined(&mut self, scope: Scope) -> Result<UnitRow, ReadFault>
         ensures { Reads (read_defined (scope_of scope.entry)) self.old result self.new }
     {
-        let fault = self.fault(Refusal::Missing);
         let name = self.name()?;
         if self.peek() != Some(b'!') {
             let variable = self.known(scope, name)?;
@@ -97,39 +98,33 @@ impl Cursor<'_> {
         }
         self.at += 1;
         if !same_word(name.of(self.bytes), b"new") {
-            return Err(fault);
+            return Err(Refusal::Missing.at(name.start));
         }
         self.gap()?;
         let variable = self.listed(scope)?;
         Ok(mentioned(variable, Aspect::Shadow, Stage::New))
     }
 
-    // What follows a word and its `!`, up to the operands; the word stands at `place`.
-    fn headed(
-        &mut self,
-        scope: Scope,
-        place: usize,
-        head: Option<Head>,
-    ) -> Result<UnitRow, ReadFault>
-        ensures { Reads (by_head (scope_of scope.entry) place head) self.old result self.new }
+    // What follows a word and its `!`, up to the operands.
+    fn headed(&mut self, scope: Scope, head: Head) -> Result<UnitRow, ReadFault>
+        ensures { Reads (by_head (scope_of scope.entry) head) self.old result self.new }
     {
         match head {
-            Some(Head::Constant) => {
+            Head::Constant => {
                 self.gap()?;
                 let number = self.number()?;
                 Ok(Row::Constant(number))
             }
-            Some(Head::Defined) => {
+            Head::Defined => {
                 self.gap()?;
                 self.defined(scope)
             }
-            Some(Head::New) => {
+            Head::New => {
                 self.gap()?;
                 let variable = self.listed(scope)?;
                 Ok(mentioned(variable, Aspect::Value, Stage::New))
             }
-            Some(Head::Operator(operator)) => Ok(Row::Operator(operator)),
-            None => Err(Refusal::Name.at(place)),
+            Head::Operator(operator) => Ok(Row::Operator(operator)),
         }
     }
 
@@ -137,11 +132,11 @@ impl Cursor<'_> {
     fn row(&mut self, scope: Scope) -> Result<UnitRow, ReadFault>
         ensures { Reads (read_row (scope_of scope.entry)) self.old result self.new }
     {
-        let place = self.at;
         let name = self.name()?;
         if self.peek() == Some(b'!') {
             self.at += 1;
-            return self.headed(scope, place, find_head(name.of(self.bytes)));
+            let head = Head::find(name.of(self.bytes)).ok_or(Refusal::Name.at(name.start))?;
+            return self.headed(scope, head);
         }
         let variable = self.known(scope, name)?;
         Ok(mentioned(variable, Aspect::Value, Stage::Current))
@@ -157,10 +152,10 @@ impl Cursor<'_> {
         if left == 0 {
             return Err(Refusal::Limit.at(place));
         }
-        match rows.refusal(ROW_LIMIT) {
-            Some(refusal) => Err(refusal.at(place)),
-            None => Ok(()),
+        if let Some(refusal) = rows.refusal(ROW_LIMIT) {
+            return Err(refusal.at(place));
         }
+        Ok(())
     }
 
     // A term up to its operands.

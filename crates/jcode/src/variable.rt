@@ -1,6 +1,7 @@
 // Variables, as a unit declares them.
 
 ghost use Rattle.std.specs.Prelude.{◌≡◌};
+ghost use Rattle.std.specs.List.{list_any};
 ghost use Rattle.terms.specs.Words.{same_word};
 ghost use Rattle.jcode.specs.Bytes.{slice};
 
@@ -25,6 +26,15 @@ pub enum Domain {
 pub struct Variable {
     pub name: Span,
     pub domain: Domain,
+}
+
+// Whether one of the variables has this name in the bytes.
+pub(super) fn is_taken(variables: &[Variable], bytes: &[u8], name: &[u8]) -> bool
+    ensures { result ≡ list_any (λ v. same_word name.now (slice bytes.now v.name)) variables.now }
+{
+    variables
+        .iter()
+        .any(|variable| variable.is_named(bytes, name))
 }
 
 impl Variable {
