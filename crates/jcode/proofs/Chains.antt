@@ -1,10 +1,10 @@
 -- What a call reads after others, and what it refuses.
-use Rattle.std.proofs.Common.{◌≡◌, ℕ, List, IsErrAnd, Ok, Err, Result, refl, ap, ◌∙◌}
+use Rattle.std.proofs.Common.{◌≡◌, ℕ, List, IsErrAnd, Ok, Err, Result, refl, ap, ◌∙◌, arith}
 use Rattle.std.proofs.lemmas.Result.{err_from_is_err_and}
 use Rattle.jcode.specs.declared.cursor.Cursor.{Cursor}
 use Rattle.jcode.specs.declared.refusal.ReadFault.{ReadFault}
 use Rattle.jcode.specs.Pieces.{Answer, got, refused, Reader, and_then, ◌▷◌, ◌◁◌, ◌⊗◌, ◌giving◌, told, Reads}
-use Rattle.jcode.specs.ReadTerms.{told_rows}
+use Rattle.jcode.specs.ReadTerms.{told_with, leaves}
 
 -- on from what was read, and no further than what was refused
 pub on : {A B : Type 0} {o : Answer A} {a : A} {i : ℕ} {x : Answer B} (f : A → ℕ → Answer B) → got a i ≡ o → x ≡ f a i → x ≡ and_then o f
@@ -17,8 +17,30 @@ off f e = ap (λ o. and_then o f) e
 pub stopped : {A : Type 0} {y : ReadFault} (r : Result A ReadFault) (j : ℕ) → IsErrAnd r (λ z. z ≡ y) → told r j ≡ refused y
 stopped r j h = let p = err_from_is_err_and r h in ap (λ q. told q j) p.1 ∙ ap refused p.2
 
-pub stopped_rows : {A X : Type 0} {y : ReadFault} (r : Result A ReadFault) (rows : X) (j : ℕ) → IsErrAnd r (λ z. z ≡ y) → told_rows r rows j ≡ refused y
-stopped_rows r rows j h = let p = err_from_is_err_and r h in ap (λ q. told_rows q rows j) p.1 ∙ ap refused p.2
+pub stopped_with : {A X : Type 0} {y : ReadFault} (r : Result A ReadFault) (left : X) (j : ℕ) → IsErrAnd r (λ z. z ≡ y) → told_with r left j ≡ refused y
+stopped_with r left j h = let p = err_from_is_err_and r h in ap (λ q. told_with q left j) p.1 ∙ ap refused p.2
+
+pub stopped_leaves : {A X : Type 0} {y : ReadFault} (r : Result A ReadFault) (left : X) (j : ℕ) → IsErrAnd r (λ z. z ≡ y) → leaves r left j ≡ refused y
+stopped_leaves r left j h = let p = err_from_is_err_and r h in ap (λ q. leaves q left j) p.1 ∙ ap refused p.2
+
+-- what a last call leaves, and tells with what others left
+pub leaves_of : {A X : Type 0} (r : Result A ReadFault) (left : X) (j : ℕ) → leaves r left j ≡ and_then (told r j) (λ _ k. got left k)
+leaves_of (Ok a) left j = refl
+leaves_of (Err y) left j = refl
+
+pub told_with_of : {A X : Type 0} (r : Result A ReadFault) (left : X) (j : ℕ) → told_with r left j ≡ and_then (told r j) (λ a k. got (a, left) k)
+told_with_of (Ok a) left j = refl
+told_with_of (Err y) left j = refl
+
+-- what was read, where what became of it is told
+module _ {A B : Type 0} (f : A → B) {b : B} {j : ℕ} where
+  pub made_of : (o : Answer A) → got b j ≡ and_then o (λ a i. got (f a) i) → (a : A) × (got a j ≡ o) × (b ≡ f a)
+  made_of (got a i) e = (a, (let h : j ≡ i = cc in ap (got a) h), cc)
+  made_of (refused y) e = let z : ◌≡◌ {A = ℕ} 0 1 = cc in absurd (omega arith)
+
+pub refused_of : {A B : Type 0} (f : A → B) {y : ReadFault} (o : Answer A) → refused y ≡ and_then o (λ a i. got (f a) i) → refused y ≡ o
+refused_of f (got a i) e = let z : ◌≡◌ {A = ℕ} 0 1 = cc in absurd (omega arith)
+refused_of f (refused y) e = cc
 
 -- a reading in bytes that are the same
 module _ {A : Type 0} {r : Reader A} {c d : Cursor} {bytes : List ℕ} (s : c.bytes.now ≡ bytes) where

@@ -2,22 +2,35 @@
 
 use super::span::Span;
 
+// How many statements a unit may have.
+pub const STATEMENT_LIMIT: usize = 200;
+
+// How deep the brackets of a term may nest.
+pub const NESTING_LIMIT: usize = 32;
+
+// How many variables NEW may list.
+pub const LIST_LIMIT: usize = 8;
+
+// The greatest label.
+pub const LABEL_LIMIT: u16 = 9_999;
+
 // A term: so many rows of the row table, from `first` on.
-#[derive(Clone, Copy)]
+#[derive(Clone, Copy, Debug, Default, PartialEq, Eq)]
 pub struct Term {
     pub first: usize,
     pub rows: usize,
 }
 
 // The variables that NEW lists, in written order; past the count they are 0.
-#[derive(Clone, Copy)]
+#[derive(Clone, Copy, Debug, Default, PartialEq, Eq)]
 pub struct Listing {
-    pub variables: [usize; 8],
+    pub variables: [usize; LIST_LIMIT],
     pub count: usize,
 }
 
-#[derive(Clone, Copy)]
+#[derive(Clone, Copy, Debug, Default, PartialEq, Eq)]
 pub enum Statement {
+    #[default]
     Hang,
     Break {
         text: Span,
