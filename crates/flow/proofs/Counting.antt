@@ -20,12 +20,20 @@ scan_hit u from j h e = scan u from j h ∙ ap (λ (b : Bool). cond b (j ∷ amo
 pub scan_miss : (u : List Step) (from : Option ℕ) (j : ℕ) → j < length u → may u from j ≡ false → among u from j (length u - j) ≡ among u from (j + 1) (length u - (j + 1))
 scan_miss u from j h e = scan u from j h ∙ ap (λ (b : Bool). cond b (j ∷ among u from (j + 1) (length u - (j + 1))) (among u from (j + 1) (length u - (j + 1)))) e
 
+-- nowhere to go to is from high on
+pub record Until (u : List Step) (from : Option ℕ) (high : ℕ) : Type 0 where
+  pub few : high ≤ length u
+  pub none_above : (j : ℕ) → j < length u → may u from j ≡ true → j < high
+
+pub until : (u : List Step) (from : Option ℕ) (low high : ℕ) → Enclosed (may u from) (length u) low high → Until u from high
+until u from low high h = record { few = h.1; none_above = λ j l e. (h.2 j l e).1 }
+
 -- a scan of the places that enclose all there is to find
 pub scan_start : (u : List Step) (from : Option ℕ) (low high : ℕ) → Enclosed (may u from) (length u) low high → among u from low (length u - low) ≡ onward u from
 scan_start u from low high h = let l = h.0 in sym (among_skip u from low 0 low (length u) (length u - low) (omega arith) (omega arith) (λ j a b e. let k = (h.2 j (omega arith) e).0 in omega arith))
 
-pub scan_end : (u : List Step) (from : Option ℕ) (low high j : ℕ) → high ≤ j → Enclosed (may u from) (length u) low high → among u from j (length u - j) ≡ []
-scan_end u from low high j l h = among_none u from j (length u - j) (λ i a b e. let k = (h.2 i (omega arith) e).1 in omega arith)
+pub scan_end : (u : List Step) (from : Option ℕ) (high j : ℕ) → high ≤ j → Until u from high → among u from j (length u - j) ≡ []
+scan_end u from high j l h = among_none u from j (length u - j) (λ i a b e. let k = h.none_above i (omega arith) e in omega arith)
 
 -- ---- sums of counts
 pub sum_clipped : (on : ℕ → List (List ℕ)) (counts js : List ℕ) → All (λ j. get_or counts j 0 ≡ min (length (on j)) limit) js → min (sum_at counts js) limit ≡ min (length (gather on js)) limit
@@ -56,4 +64,4 @@ nothing (suc n) (suc k) = nothing n k
 
 -- ---- all paths
 pub total_is : (u : List Step) (counts : List ℕ) (total : ℕ) → Counted u counts → total ≡ min (sum_at counts (onward u None)) limit → total ≡ min (length (paths u)) limit
-total_is u counts total c e = e ∙ sum_onward u (ways_from u) counts None c.each
+total_is u counts total c e = e ∙ sum_onward u (ways_from u) counts None c

@@ -9,7 +9,7 @@ use Rattle.flow.specs.Steps.{Acyclic}
 use Rattle.flow.specs.Paths.{required}
 use Rattle.flow.specs.Numbers.{may, among, onward, gather, here, ways, ways_to, ways_from}
 use Rattle.flow.specs.Counts.{limit, ends, Counted}
-use Rattle.flow.specs.Turns.{Stands, Picked, Went}
+use Rattle.flow.specs.Turns.{told, Picked}
 use Rattle.flow.proofs.Leading.{may_next, onward_may}
 use Rattle.flow.proofs.Walking.{Short, short, shorter}
 use Rattle.flow.proofs.Counting.{scan_hit, scan_miss}
@@ -50,7 +50,7 @@ module _ (u : List Step) (counts : List ℕ) (from : Option ℕ) (number j k : �
 
   pub found : may u from j ≡ true → k < get_or counts j 0 → Picked u from number (Some (record { place = j; number = k }))
   found e h =
-      let w : k < length (ways_from u j) = omega (arith, counted.each j inside) in (
+      let w : k < length (ways_from u j) = omega (arith, counted j inside) in (
         record { inside = inside; known = w },
         sym (get_or_append_left (ways_from u j) rest [] k w) ∙ ap (λ (l : List (List ℕ)). get_or l k []) (sym (split e)) ∙ left.2,
         omega (arith, left.1, ap length (split e), length-append (ways_from u j) rest),
@@ -59,7 +59,7 @@ module _ (u : List Step) (counts : List ℕ) (from : Option ℕ) (number j k : �
   pub passed : may u from j ≡ true → get_or counts j 0 ≤ k → Left u from number (j + 1) (k - get_or counts j 0)
   unfolding rest
   passed e h =
-      let l : get_or counts j 0 ≡ length (ways_from u j) = omega (arith, counted.each j inside, left.0) in (
+      let l : get_or counts j 0 ≡ length (ways_from u j) = omega (arith, counted j inside, left.0) in (
         omega (arith, left.0),
         omega (arith, left.1, ap length (split e), length-append (ways_from u j) rest),
         sym (get_or-append_right (ways_from u j) rest (get_or counts j 0) k [] (sym l) h) ∙ ap (λ (l : List (List ℕ)). get_or l k []) (sym (split e)) ∙ left.2,
@@ -80,21 +80,14 @@ length_on : (b : Bool) (i : ℕ) (g : List (List ℕ)) → length (here b i ++ m
 length_on true i g = omega (arith, length-map g (λ way. i ∷ way))
 length_on false i g = omega (arith, length-map g (λ way. i ∷ way))
 
-module _ (u : List Step) (a : Acyclic u) (t : Turn) (s : Stands u t) where
+module _ (u : List Step) (a : Acyclic u) (t : Turn) (inside : t.place < length u) where
   -- what the ways of the turn's place are made of
-  pub parts : (k : ℕ) (r : Option Turn) → t.number ≡ ends (required u t.place) + k → Picked u (Some t.place) k r → Went u t r
-  parts k None e p =
-      absurd (omega (arith, s.known, ap length (ways_on (required u) u a t.place s.inside), length_on (required u t.place) t.place (gather (ways_from u) (onward u (Some t.place)))))
-  parts k (Some next) e p = (
-    p.0,
-    ap (λ (ws : List (List ℕ)). get_or ws t.number []) (ways_on (required u) u a t.place s.inside)
-        ∙ ap (λ (n : ℕ). get_or (here (required u t.place) t.place ++ map (λ way. t.place ∷ way) (gather (ways_from u) (onward u (Some t.place)))) n []) e
-        ∙ ahead (required u t.place) t.place (gather (ways_from u) (onward u (Some t.place))) k p.2
-        ∙ ap (λ (way : List ℕ). t.place ∷ way) (sym p.1),
-  )
+  pub ways_length_on : length (ways_from u t.place) ≡ ends (required u t.place) + length (gather (ways_from u) (onward u (Some t.place)))
+  ways_length_on = omega (arith, ap length (ways_on (required u) u a t.place inside), length_on (required u t.place) t.place (gather (ways_from u) (onward u (Some t.place))))
 
-  pub ended : required u t.place ≡ true → t.number ≡ 0 → Went u t None
-  ended e z =
-      ap (λ (ws : List (List ℕ)). get_or ws t.number []) (ways_on (required u) u a t.place s.inside)
-      ∙ ap (λ (n : ℕ). get_or (here (required u t.place) t.place ++ map (λ way. t.place ∷ way) (gather (ways_from u) (onward u (Some t.place)))) n []) z
-      ∙ ap (λ (b : Bool). get_or (here b t.place ++ map (λ way. t.place ∷ way) (gather (ways_from u) (onward u (Some t.place)))) 0 []) e
+  pub told_on : (k : ℕ) (next : Turn) → t.number ≡ ends (required u t.place) + k → Picked u (Some t.place) k (Some next) → told u t ≡ t.place ∷ told u next
+  told_on k next e p =
+      ap (λ (ws : List (List ℕ)). get_or ws t.number []) (ways_on (required u) u a t.place inside)
+      ∙ ap (λ (n : ℕ). get_or (here (required u t.place) t.place ++ map (λ way. t.place ∷ way) (gather (ways_from u) (onward u (Some t.place)))) n []) e
+      ∙ ahead (required u t.place) t.place (gather (ways_from u) (onward u (Some t.place))) k p.2
+      ∙ ap (λ (way : List ℕ). t.place ∷ way) (sym p.1)

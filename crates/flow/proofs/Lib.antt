@@ -1,4 +1,5 @@
-pub mod Listing
+pub mod Lowest
+pub mod Made
 pub mod Ordering
 pub mod Labelling
 pub mod Leading

@@ -1,6 +1,7 @@
 -- How many ways lead on from each statement, clipped.
-use Rattle.std.specs.Prelude.{◌≡◌, ℕ, ◌+◌, ◌<◌, ◌≤◌, min, Bool, true, false, ◌⊎◌, List, [], ◌∷◌, length, Some, None, Option, slice_index}
+use Rattle.std.specs.Prelude.{◌≡◌, ℕ, ◌+◌, ◌<◌, ◌≤◌, min, Bool, true, false, ◌⊎◌, List, [], ◌∷◌, length, Some, slice_index}
 use Rattle.flow.specs.declared.step.Step.{Step}
+use Rattle.flow.specs.declared.counts.TheConstants.{LIMIT}
 use Rattle.flow.specs.Steps.{OnCircle}
 use Rattle.flow.specs.Paths.{required}
 use Rattle.flow.specs.Numbers.{onward, ways_from, paths}
@@ -11,12 +12,7 @@ most = 65536
 
 -- counts go up to one more
 abbrev pub limit : ℕ
-limit = 65537
-
--- the place to go on from is a statement
-abbrev pub Within : ℕ → Option ℕ → Type 0
-Within n None = Unit {0}
-Within n (Some i) = i < n
+limit = LIMIT
 
 -- the places that pass a test lie from low on and below high
 abbrev pub Enclosed : (ℕ → Bool) → ℕ → ℕ → ℕ → Type 0
@@ -36,9 +32,8 @@ abbrev pub clipped : List Step → List ℕ → ℕ → ℕ
 clipped u counts i = min (ends (required u i) + min (sum_at counts (onward u (Some i))) limit) limit
 
 -- each statement's count is that of its ways, clipped
-pub record Counted (u : List Step) (counts : List ℕ) : Type 0 where
-  pub room : length u ≤ length counts
-  pub each : (i : ℕ) → i < length u → slice_index counts i ≡ min (length (ways_from u i)) limit
+abbrev pub Counted : List Step → List ℕ → Type 0
+Counted u counts = (i : ℕ) → i < length u → slice_index counts i ≡ min (length (ways_from u i)) limit
 
 -- a circle, or more paths than a unit may have
 abbrev pub TooMany : List Step → Type 0

@@ -36,8 +36,3 @@ pub record Stands (u : List Step) (t : Turn) : Type 0 where
 abbrev pub Picked : List Step → Option ℕ → ℕ → Option Turn → Type 0
 Picked u from k None = length (gather (ways_from u) (onward u from)) ≤ k
 Picked u from k (Some t) = Stands u t × (told u t ≡ slice_index_or (gather (ways_from u) (onward u from)) k []) × (k < length (gather (ways_from u) (onward u from)))
-
--- the way of a turn ends at its place, or goes on with the next turn's
-abbrev pub Went : List Step → Turn → Option Turn → Type 0
-Went u t None = told u t ≡ t.place ∷ []
-Went u t (Some next) = Stands u next × (told u t ≡ t.place ∷ told u next)
