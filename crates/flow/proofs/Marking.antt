@@ -4,6 +4,7 @@ use Rattle.std.proofs.lemmas.List.{get_or_past}
 use Rattle.std.proofs.lemmas.Bool.{cases_eq, cases_lt, cases_Bool}
 use Rattle.std.proofs.lemmas.Bool.Decides.{Decides-and, Decides-ltb}
 use Rattle.flow.specs.declared.step.Step.{Step}
+use Rattle.flow.specs.declared.flow.TheConstants.{MOST_STEPS}
 use Rattle.flow.specs.declared.circle.Mark.{Mark}
 use Rattle.flow.specs.declared.circle.Mark.TheVariants.{Unseen, Seen, Done}
 use Rattle.flow.specs.Steps.{at, leads, Next, Reach, one, onto}
@@ -128,11 +129,11 @@ blank zero k = refl
 blank (suc n) zero = refl
 blank (suc n) (suc k) = blank n k
 
-pub begun : (u : List Step) (i : ℕ) (marks : List Mark) → Spread u i (replicate 200 Unseen) marks → Marks u i marks
+pub begun : (u : List Step) (i : ℕ) (marks : List Mark) → Spread u i (replicate MOST_STEPS Unseen) marks → Marks u i marks
 begun u i marks s = record {
-  sound = λ j ne. ⊎_elim (λ h. absurd (h (blank 200 j))) (λ e. one ((comes_decides u i j).0 e)) (seen_by (mark_at (replicate 200 Unseen) j) (comes u i j) (λ f. ne (s j ∙ f)));
-  first = λ j n e. came (mark_at (replicate 200 Unseen) j) (comes u i j) ((comes_decides u i j).1 n) (sym (s j) ∙ e);
-  after = λ j k e n. let d = was_done (mark_at (replicate 200 Unseen) j) (comes u i j) (sym (s j) ∙ e) in let f = blank 200 j in cc;
+  sound = λ j ne. ⊎_elim (λ h. absurd (h (blank MOST_STEPS j))) (λ e. one ((comes_decides u i j).0 e)) (seen_by (mark_at (replicate MOST_STEPS Unseen) j) (comes u i j) (λ f. ne (s j ∙ f)));
+  first = λ j n e. came (mark_at (replicate MOST_STEPS Unseen) j) (comes u i j) ((comes_decides u i j).1 n) (sym (s j) ∙ e);
+  after = λ j k e n. let d = was_done (mark_at (replicate MOST_STEPS Unseen) j) (comes u i j) (sym (s j) ∙ e) in let f = blank MOST_STEPS j in cc;
 }
 
 only : (m : Mark) → m ≢ Unseen → m ≢ Seen → m ≡ Done

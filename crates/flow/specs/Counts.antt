@@ -1,14 +1,14 @@
 -- How many ways lead on from each statement, clipped.
 use Rattle.std.specs.Prelude.{◌≡◌, ℕ, ◌+◌, ◌<◌, ◌≤◌, min, Bool, true, false, ◌⊎◌, List, [], ◌∷◌, length, Some, slice_index}
 use Rattle.flow.specs.declared.step.Step.{Step}
-use Rattle.flow.specs.declared.counts.TheConstants.{LIMIT}
+use Rattle.flow.specs.declared.counts.TheConstants.{MOST_PATHS, LIMIT}
 use Rattle.flow.specs.Steps.{OnCircle}
 use Rattle.flow.specs.Paths.{required}
 use Rattle.flow.specs.Numbers.{onward, ways_from, paths}
 
 -- the most paths that a unit may have
 abbrev pub most : ℕ
-most = 65536
+most = MOST_PATHS
 
 -- counts go up to one more
 abbrev pub limit : ℕ

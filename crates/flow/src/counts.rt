@@ -9,8 +9,11 @@ use super::flow::{Flow, MOST_STEPS};
 use super::step::Step;
 use std::array;
 
-// One more than the most paths that a unit may have: counts go no further.
-pub(super) const LIMIT: u32 = 65_537;
+// The most paths that a unit may have.
+const MOST_PATHS: u32 = 65_536;
+
+// Counts go no further.
+pub(super) const LIMIT: u32 = MOST_PATHS + 1;
 
 // A count for each statement; an array, so that no count can fail for want of memory.
 pub(super) type Counts = [u32; MOST_STEPS];

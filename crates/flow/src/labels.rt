@@ -58,7 +58,8 @@ impl Flow {
     pub fn mislabelled(&self) -> Option<usize>
         ensures { Least (Mislabelled (steps_in self.now)) result }
     {
-        let mut steps = self.listed().iter();
-        steps.position(|&step| self.clashes(step) || self.is_unmatched(step))
+        self.listed()
+            .iter()
+            .position(|&step| self.clashes(step) || self.is_unmatched(step))
     }
 }

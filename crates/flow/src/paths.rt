@@ -5,7 +5,7 @@ ghost use Rattle.flow.specs.declared.step.Step.TheVariants.{Break, Require, Hang
 ghost use Rattle.flow.specs.Steps.{Acyclic};
 ghost use Rattle.flow.specs.Flows.{steps_in};
 ghost use Rattle.flow.specs.Numbers.{paths, Numbered};
-ghost use Rattle.flow.specs.Counts.{TooMany, Counted, limit};
+ghost use Rattle.flow.specs.Counts.{TooMany, Counted, most};
 ghost use Rattle.flow.specs.Turns.{Starts, Follows, Picked};
 
 use super::counts::{Counts, LIMIT};
@@ -22,7 +22,7 @@ pub struct Paths {
     ghost acyclic: { Acyclic (steps_in flow) },
     ghost counted: { Counted (steps_in flow) counts },
     ghost whole: { total ≡ length (paths (steps_in flow)) },
-    ghost few: { total < limit },
+    ghost few: { total ≤ most },
 }
 
 // BREAK, REQUIRE, HANG.
@@ -68,7 +68,7 @@ impl Paths {
 
     pub fn count(&self) -> usize
         ensures count { result ≡ length (paths (steps_in self.now.flow)) }
-        ensures few { result ≤ 65536 }
+        ensures few { result ≤ most }
         ensures numbered { Numbered (steps_in self.now.flow) }
     {
         self.total as usize
