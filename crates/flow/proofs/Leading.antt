@@ -1,13 +1,13 @@
 -- Where control and a path may go.
 use Rattle.std.proofs.Common.{◌≡◌, ℕ, zero, suc, ◌+◌, ◌<◌, ◌≤◌, Bool, true, false, cond, ◌≢◌, ◌⊎◌, List, [], ◌∷◌, length, Some, Option, sym, refl, ap, ◌∙◌, inl, inr, ⊎_elim, true≢false, arith}
-use Rattle.std.specs.List.{AllByRecursion as All}
+use Rattle.std.specs.List.{AllByRecursion as All, filter, range_with_len}
 use Rattle.std.proofs.lemmas.List.{get_or_past}
 use Rattle.std.proofs.lemmas.Bool.{cond_both, cond-false, cases_Bool, cases_lt}
 use Rattle.std.proofs.ByRecursion.{All-weaker}
 use Rattle.flow.specs.declared.step.Step.{Step}
 use Rattle.flow.specs.declared.step.Step.TheVariants.{Hang, Break, Require, Plain, Split, When, Branch, Join}
 use Rattle.flow.specs.Steps.{at, is_break, leads, Next}
-use Rattle.flow.specs.Numbers.{may, among, onward}
+use Rattle.flow.specs.Numbers.{may, onward}
 
 pub never : {A : Type 0} → false ≡ true → A
 never e = absurd (true≢false (sym e))
@@ -39,12 +39,16 @@ pub next_may : (u : List Step) (i j : ℕ) → Next u i j → at u j ≢ Break �
 next_may u i j h ne = ap (λ (b : Bool). cond b false (leads i (at u i) j (at u j))) (no_break (at u j) ne) ∙ h.1
 
 -- ---- the places to go to
+-- those among the m places from a on
+abbrev pub among : List Step → Option ℕ → ℕ → ℕ → List ℕ
+among u from a m = filter (may u from) (range_with_len a m)
+
 pub among_may : (u : List Step) (from : Option ℕ) (a m : ℕ) → All (λ j. (a ≤ j) × (j < a + m) × (may u from j ≡ true)) (among u from a m)
 among_may u from a zero = tt
 among_may u from a (suc m) =
-    let wide = All-weaker (λ j. (suc a ≤ j) × (j < suc a + m) × (may u from j ≡ true)) (λ j. (a ≤ j) × (j < a + suc m) × (may u from j ≡ true))
-    (λ j h. (omega arith, omega arith, h.2)) (among u from (suc a) m) (among_may u from (suc a) m) in
-    cond_both (may u from a) (a ∷ among u from (suc a) m) (among u from (suc a) m) (All (λ j. (a ≤ j) × (j < a + suc m) × (may u from j ≡ true)))
+    let wide = All-weaker (λ j. (a + 1 ≤ j) × (j < a + 1 + m) × (may u from j ≡ true)) (λ j. (a ≤ j) × (j < a + suc m) × (may u from j ≡ true))
+    (λ j h. (omega arith, omega arith, h.2)) (among u from (a + 1) m) (among_may u from (a + 1) m) in
+    cond_both (may u from a) (a ∷ among u from (a + 1) m) (among u from (a + 1) m) (All (λ j. (a ≤ j) × (j < a + suc m) × (may u from j ≡ true)))
     (λ e. ((omega arith, omega arith, e), wide)) (λ e. wide)
 
 pub onward_may : (u : List Step) (from : Option ℕ) → All (λ j. (j < length u) × (may u from j ≡ true)) (onward u from)
@@ -59,10 +63,10 @@ among_in : (u : List Step) (from : Option ℕ) (a m j : ℕ) → a ≤ j → j <
 among_in u from a zero j h k e = absurd (omega arith)
 among_in u from a (suc m) j h k e =
     ⊎_elim
-    (λ later. cond_both (may u from a) (a ∷ among u from (suc a) m) (among u from (suc a) m) (In j)
-    (λ y. inr (among_in u from (suc a) m j (omega arith) (omega arith) e)) (λ n. among_in u from (suc a) m j (omega arith) (omega arith) e))
+    (λ later. cond_both (may u from a) (a ∷ among u from (a + 1) m) (among u from (a + 1) m) (In j)
+    (λ y. inr (among_in u from (a + 1) m j (omega arith) (omega arith) e)) (λ n. among_in u from (a + 1) m j (omega arith) (omega arith) e))
     (λ not-later. let is : j ≡ a = omega arith in
-    cond_both (may u from a) (a ∷ among u from (suc a) m) (among u from (suc a) m) (In j)
+    cond_both (may u from a) (a ∷ among u from (a + 1) m) (among u from (a + 1) m) (In j)
     (λ y. inl is) (λ n. absurd (true≢false (sym e ∙ ap (may u from) is ∙ n))))
     (cases_lt a j)
 
@@ -76,8 +80,8 @@ none b n = ⊎_elim (λ e. absurd (n e)) (λ e. e) (cases_Bool b)
 pub among_none : (u : List Step) (from : Option ℕ) (a m : ℕ) → ((j : ℕ) → a ≤ j → j < a + m → may u from j ≡ true → ⊥) → among u from a m ≡ []
 among_none u from a zero h = refl
 among_none u from a (suc m) h =
-    cond-false (may u from a) (a ∷ among u from (suc a) m) (among u from (suc a) m) (none (may u from a) (h a (omega arith) (omega arith)))
-    ∙ among_none u from (suc a) m (λ j l k. h j (omega arith) (omega arith))
+    cond-false (may u from a) (a ∷ among u from (a + 1) m) (among u from (a + 1) m) (none (may u from a) (h a (omega arith) (omega arith)))
+    ∙ among_none u from (a + 1) m (λ j l k. h j (omega arith) (omega arith))
 
 -- a scan may begin at b where nothing stands in the d places before
 pub among_skip : (u : List Step) (from : Option ℕ) (d a b k m : ℕ) → b ≡ a + d → k ≡ d + m → ((j : ℕ) → a ≤ j → j < b → may u from j ≡ true → ⊥) → among u from a k ≡ among u from b m
@@ -85,8 +89,8 @@ among_skip u from zero a b k m eb ek h = let e : a ≡ b = omega arith in let f 
 among_skip u from (suc d) a b k m eb ek h =
     let e : k ≡ suc (d + m) = omega arith in
     ap (among u from a) e
-    ∙ cond-false (may u from a) (a ∷ among u from (suc a) (d + m)) (among u from (suc a) (d + m)) (none (may u from a) (h a (omega arith) (omega arith)))
-    ∙ among_skip u from d (suc a) b (d + m) m (omega arith) refl (λ j l k. h j (omega arith) k)
+    ∙ cond-false (may u from a) (a ∷ among u from (a + 1) (d + m)) (among u from (a + 1) (d + m)) (none (may u from a) (h a (omega arith) (omega arith)))
+    ∙ among_skip u from d (a + 1) b (d + m) m (omega arith) refl (λ j l k. h j (omega arith) k)
 
 -- ---- what leads on is a statement
 pub leads_inside : (u : List Step) (i j : ℕ) → Next u i j → i < length u

@@ -9,7 +9,8 @@ use Rattle.flow.specs.declared.turn.Turn.{Turn}
 use Rattle.flow.specs.Steps.{is_require, Acyclic}
 use Rattle.flow.specs.Counts.{ends}
 use Rattle.flow.specs.Paths.{required}
-use Rattle.flow.specs.Numbers.{onward, gather, here, ways, ways_from}
+use Rattle.std.specs.List.{flat_map}
+use Rattle.flow.specs.Numbers.{onward, here, ways, ways_from}
 use Rattle.flow.specs.Turns.{told, tail, Tells, Stands, Starts, Follows, Picked}
 use Rattle.flow.proofs.Leading.{among_none, may_next, leads_inside}
 use Rattle.flow.proofs.Descending.{ways_length_on, told_on}
@@ -41,7 +42,7 @@ no_end u i h = ap is_require (get_or_past u i Hang h)
 
 no_ways : (u : List Step) (f i : ℕ) → length u ≤ i → ways (required u) f u i ≡ []
 no_ways u zero i h = refl
-no_ways u (suc f) i h = λ t. here (no_end u i h t) i ++ map (λ way. i ∷ way) (gather (ways (required u) f u) (nowhere u i h t))
+no_ways u (suc f) i h = λ t. here (no_end u i h t) i ++ map (λ way. i ∷ way) (flat_map (ways (required u) f u) (nowhere u i h t))
 
 -- ---- the turn after a turn
 pub follows : (u : List Step) → Acyclic u → (t : Turn) (k : ℕ) (r : Option Turn) → t.number ≡ ends (required u t.place) + k → Picked u (Some t.place) k r → Follows u t r
@@ -52,7 +53,7 @@ follows u a t k None e p = ⊎_elim
 follows u a t k (Some next) e p = (
   ⊎_elim
       (λ l. told_on u a t l k next e p)
-      (λ l. absurd (let n = p.2 in omega (arith, ap (λ (js : List ℕ). length (gather (ways_from u) js)) (nowhere u t.place l))))
+      (λ l. absurd (let n = p.2 in omega (arith, ap (λ (js : List ℕ). length (flat_map (ways_from u) js)) (nowhere u t.place l))))
       (cases_lt t.place (length u)),
   tells u next p.0,
 )

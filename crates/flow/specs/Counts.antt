@@ -1,5 +1,5 @@
 -- How many ways lead on from each statement, clipped.
-use Rattle.std.specs.Prelude.{◌≡◌, ℕ, ◌+◌, ◌<◌, ◌≤◌, min, Bool, true, false, ◌⊎◌, List, [], ◌∷◌, length, Some, slice_index}
+use Rattle.std.specs.Prelude.{◌≡◌, ℕ, ◌+◌, ◌<◌, ◌≤◌, min, Bool, true, false, ◌⊎◌, List, length, sum_by, Some, slice_index}
 use Rattle.flow.specs.declared.step.Step.{Step}
 use Rattle.flow.specs.declared.counts.TheConstants.{MOST_PATHS, LIMIT}
 use Rattle.flow.specs.Steps.{OnCircle}
@@ -20,8 +20,7 @@ Enclosed test n low high = (low ≤ n) × (high ≤ n) × ((j : ℕ) → j < n �
 
 -- what the counts at some places come to
 abbrev pub sum_at : List ℕ → List ℕ → ℕ
-sum_at counts [] = 0
-sum_at counts (j ∷ js) = slice_index counts j + sum_at counts js
+sum_at counts js = sum_by (slice_index counts) js
 
 -- a statement's count, from those of its successors
 abbrev pub ends : Bool → ℕ

@@ -1,4 +1,5 @@
-use Rattle.std.proofs.Common.{◌≡◌, ◌+◌, ◌<◌, true, false, length, ap, arith, rules}
+use Rattle.std.proofs.Common.{◌≡◌, ℕ, ◌+◌, ◌<◌, true, false, length, ap, arith, rules}
+use Rattle.std.proofs.lemmas.List.Sums.{sum_by-cons}
 use Rattle.flow.specs.Flows.{steps_in}
 use Rattle.flow.specs.Numbers.{may}
 use Rattle.flow.specs.Counts.{Enclosed, sum_at}
@@ -22,7 +23,7 @@ loop-j-preserved-then-allows c =
     let inside : c.in-Some.j < length u = search rules in
     let allowed : may u c.args.from c.in-Some.j ≡ true = search rules in
     let e = ap (sum_at c.args.counts.now) (scan_hit u c.args.from c.in-Some.j inside allowed) in
-    record { until = rw same c.loop-j.invariant.until; clipped = omega arith; rest = rw next (omega (arith, e, rw (← here) at c.loop-j.invariant.rest)) }
+    record { until = rw same c.loop-j.invariant.until; clipped = omega arith; rest = rw next (omega (arith, e, sum_by-cons {X = ℕ}, rw (← here) at c.loop-j.invariant.rest)) }
 
 pub loop-j-preserved : goal.loop-j-preserved
 loop-j-preserved c =

@@ -1,6 +1,7 @@
 use Rattle.std.proofs.Common.{◌≡◌, ◌+◌, ◌-◌, ◌≤◌, min, length}
 use Rattle.flow.specs.Flows.{steps_in}
-use Rattle.flow.specs.Numbers.{among, onward}
+use Rattle.flow.specs.Numbers.{onward}
+use Rattle.flow.proofs.Leading.{among}
 use Rattle.flow.specs.Counts.{limit, sum_at}
 use Rattle.flow.proofs.Counting.{Until}
 use Rattle.flow.proofs.flow.Flow.sum.Given as goal
