@@ -1,5 +1,5 @@
 -- Clipped counts are those of the ways.
-use Rattle.std.proofs.Common.{◌≡◌, ℕ, zero, suc, ◌+◌, ◌-◌, ◌<◌, ◌≤◌, min, Bool, true, false, cond, List, [], ◌∷◌, map, length, get_or, slice_index, replicate, Some, None, Option, sym, refl, ap, ◌∙◌, add-one, arith, length-append}
+use Rattle.std.proofs.Common.{◌≡◌, ℕ, suc, ◌+◌, ◌-◌, ◌<◌, ◌≤◌, min, Bool, true, false, cond, List, [], ◌∷◌, map, length, get_or, slice_index, Some, None, Option, sym, refl, ap, ◌∙◌, add-one, arith, length-append}
 use Rattle.std.proofs.lemmas.List.{length-map}
 use Rattle.std.proofs.lemmas.List.Sums.{sum_by-cons}
 use Rattle.std.specs.List.{AllByRecursion as All}
@@ -59,11 +59,6 @@ pub further : (u : List Step) (t : ℕ) (old new : List ℕ) → ((k : ℕ) → 
     → ((k : ℕ) → k < length u → get_or new k 0 ≡ clipped u old k)
     → (k : ℕ) → k < length u → get_or new k 0 ≡ min (length (ways (required u) (t + 1) u k)) limit
 further u t old new h e k l = rw add-one (omega (arith, e k l, sum_onward u (ways (required u) t u) old (Some k) h, ways_count (required u) t u k))
-
-pub nothing : (n k : ℕ) → ◌≡◌ {A = ℕ} (get_or (replicate n 0) k 0) 0
-nothing zero k = refl
-nothing (suc n) zero = refl
-nothing (suc n) (suc k) = nothing n k
 
 -- ---- all paths
 pub total_is : (u : List Step) (counts : List ℕ) (total : ℕ) → Counted u counts → total ≡ min (sum_at counts (onward u None)) limit → total ≡ min (length (paths u)) limit

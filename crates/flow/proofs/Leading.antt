@@ -2,7 +2,7 @@
 use Rattle.std.proofs.Common.{◌≡◌, ℕ, zero, suc, ◌+◌, ◌<◌, ◌≤◌, Bool, true, false, cond, ◌≢◌, ◌⊎◌, List, [], ◌∷◌, length, Some, Option, sym, refl, ap, ◌∙◌, inl, inr, ⊎_elim, true≢false, arith}
 use Rattle.std.specs.List.{AllByRecursion as All, filter, range_with_len}
 use Rattle.std.proofs.lemmas.List.{get_or_past}
-use Rattle.std.proofs.lemmas.Bool.{cond_both, cond-false, cases_Bool, cases_lt}
+use Rattle.std.proofs.lemmas.Bool.{cond_both, cond-false, cases_lt, false_from_ne_true}
 use Rattle.std.proofs.ByRecursion.{All-weaker}
 use Rattle.flow.specs.declared.step.Step.{Step}
 use Rattle.flow.specs.declared.step.Step.TheVariants.{Hang, Break, Require, Plain, Split, When, Branch, Join}
@@ -23,7 +23,7 @@ break_is (Branch l) e = never e
 break_is (Join l) e = never e
 
 no_break : (t : Step) → t ≢ Break → is_break t ≡ false
-no_break t ne = ⊎_elim (λ e. absurd (ne (break_is t e))) (λ e. e) (cases_Bool (is_break t))
+no_break t ne = false_from_ne_true (is_break t) (λ e. ne (break_is t e))
 
 -- ---- where a path may go
 both : (b c : Bool) → cond b false c ≡ true → (b ≡ false) × (c ≡ true)
@@ -74,13 +74,10 @@ pub onward_in : (u : List Step) (from : Option ℕ) (j : ℕ) → j < length u �
 onward_in u from j h e = among_in u from 0 (length u) j (omega arith) (omega arith) e
 
 -- ---- where nothing is to go to
-none : (b : Bool) → (b ≡ true → ⊥) → b ≡ false
-none b n = ⊎_elim (λ e. absurd (n e)) (λ e. e) (cases_Bool b)
-
 pub among_none : (u : List Step) (from : Option ℕ) (a m : ℕ) → ((j : ℕ) → a ≤ j → j < a + m → may u from j ≡ true → ⊥) → among u from a m ≡ []
 among_none u from a zero h = refl
 among_none u from a (suc m) h =
-    cond-false (may u from a) (a ∷ among u from (a + 1) m) (among u from (a + 1) m) (none (may u from a) (h a (omega arith) (omega arith)))
+    cond-false (may u from a) (a ∷ among u from (a + 1) m) (among u from (a + 1) m) (false_from_ne_true (may u from a) (h a (omega arith) (omega arith)))
     ∙ among_none u from (a + 1) m (λ j l k. h j (omega arith) (omega arith))
 
 -- a scan may begin at b where nothing stands in the d places before
@@ -89,7 +86,7 @@ among_skip u from zero a b k m eb ek h = let e : a ≡ b = omega arith in let f 
 among_skip u from (suc d) a b k m eb ek h =
     let e : k ≡ suc (d + m) = omega arith in
     ap (among u from a) e
-    ∙ cond-false (may u from a) (a ∷ among u from (a + 1) (d + m)) (among u from (a + 1) (d + m)) (none (may u from a) (h a (omega arith) (omega arith)))
+    ∙ cond-false (may u from a) (a ∷ among u from (a + 1) (d + m)) (among u from (a + 1) (d + m)) (false_from_ne_true (may u from a) (h a (omega arith) (omega arith)))
     ∙ among_skip u from d (a + 1) b (d + m) m (omega arith) refl (λ j l k. h j (omega arith) k)
 
 -- ---- what leads on is a statement

@@ -1,7 +1,7 @@
 -- What is seen is reached, and once all that is seen is done, what is reached is seen.
 use Rattle.std.proofs.Common.{◌≡◌, ℕ, zero, suc, ◌+◌, ◌<◌, ◌≤◌, Bool, true, false, ◌≢◌, ◌⊎◌, List, [], ◌∷◌, length, set, replicate, nat_lt, ◌&&◌, Decides, subst, sym, refl, ap, ◌∙◌, inl, inr, ⊎_elim, arith, get_or-set_other, get_or-set_same, below_more}
 use Rattle.std.proofs.lemmas.List.{get_or_past}
-use Rattle.std.proofs.lemmas.Bool.{cases_eq, cases_lt, cases_Bool}
+use Rattle.std.proofs.lemmas.Bool.{cases_eq, cases_lt, false_from_ne_true}
 use Rattle.std.proofs.lemmas.Bool.Decides.{Decides-and, Decides-ltb}
 use Rattle.flow.specs.declared.step.Step.{Step}
 use Rattle.flow.specs.declared.flow.TheConstants.{MOST_STEPS}
@@ -59,7 +59,7 @@ pub record Spreading (u : List Step) (i : ℕ) (old new : List Mark) (j high : �
   pub above : (k : ℕ) → j ≤ k → mark_at new k ≡ mark_at old k
 
 no_successor : (u : List Step) (i k : ℕ) → (Next u i k → ⊥) → comes u i k ≡ false
-no_successor u i k h = ⊎_elim (λ e. absurd (h ((comes_decides u i k).0 e))) (λ e. e) (cases_Bool (comes u i k))
+no_successor u i k h = false_from_ne_true (comes u i k) (λ e. h ((comes_decides u i k).0 e))
 
 pub spread_begins : (u : List Step) (i : ℕ) (old : List Mark) (low high : ℕ) → Enclosed (λ j. leads i (at u i) j (at u j)) (length u) low high → Spreading u i old old low high
 spread_begins u i old low high h = record {

@@ -60,10 +60,7 @@ impl Paths {
     pub fn house() -> Paths
         ensures { steps_in result.flow ≡ Break ∷ Require ∷ Hang ∷ [] }
     {
-        let Some(paths) = one_require().ok().and_then(Paths::of) else {
-            unreachable!()
-        };
-        paths
+        one_require().ok().and_then(Paths::of).unwrap()
     }
 
     pub fn count(&self) -> usize
