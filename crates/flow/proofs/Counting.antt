@@ -1,5 +1,5 @@
 -- Clipped counts are those of the ways.
-use Rattle.std.proofs.Common.{◌≡◌, ℕ, suc, ◌+◌, ◌-◌, ◌<◌, ◌≤◌, min, Bool, true, false, cond, List, [], ◌∷◌, map, length, get_or, slice_index, Some, None, Option, sym, refl, ap, ◌∙◌, add-one, arith, length-append}
+use Rattle.std.proofs.Common.{◌≡◌, ℕ, suc, ◌+◌, ◌-◌, ◌^◌, ◌<◌, ◌≤◌, min, Bool, true, false, List, [], ◌∷◌, fold, map, length, get_or, slice_index, Some, None, Option, refl, ◌∙◌, add-one, arith, length-append}
 use Rattle.std.proofs.lemmas.List.{length-map}
 use Rattle.std.proofs.lemmas.List.Sums.{sum_by-cons}
 use Rattle.std.specs.List.{AllByRecursion as All}
@@ -8,37 +8,14 @@ use Rattle.flow.specs.declared.step.Step.{Step}
 use Rattle.flow.specs.Paths.{required}
 use Rattle.std.specs.List.{flat_map}
 use Rattle.flow.specs.Numbers.{may, onward, here, ways, ways_from, paths}
-use Rattle.flow.proofs.Leading.{among}
-use Rattle.flow.specs.Counts.{Enclosed, limit, sum_at, ends, clipped, Counted}
-use Rattle.flow.proofs.Leading.{onward_may, among_none, among_skip}
-
--- ---- one place more of a scan
-pub scan : (u : List Step) (from : Option ℕ) (j : ℕ) → j < length u
-    → among u from j (length u - j) ≡ cond (may u from j) (j ∷ among u from (j + 1) (length u - (j + 1))) (among u from (j + 1) (length u - (j + 1)))
-scan u from j h = ap (among u from j) (let e : length u - j ≡ suc (length u - (j + 1)) = omega arith in e)
-
-pub scan_hit : (u : List Step) (from : Option ℕ) (j : ℕ) → j < length u → may u from j ≡ true → among u from j (length u - j) ≡ j ∷ among u from (j + 1) (length u - (j + 1))
-scan_hit u from j h e = scan u from j h ∙ ap (λ (b : Bool). cond b (j ∷ among u from (j + 1) (length u - (j + 1))) (among u from (j + 1) (length u - (j + 1)))) e
-
-pub scan_miss : (u : List Step) (from : Option ℕ) (j : ℕ) → j < length u → may u from j ≡ false → among u from j (length u - j) ≡ among u from (j + 1) (length u - (j + 1))
-scan_miss u from j h e = scan u from j h ∙ ap (λ (b : Bool). cond b (j ∷ among u from (j + 1) (length u - (j + 1))) (among u from (j + 1) (length u - (j + 1)))) e
-
--- nowhere to go to is from high on
-pub record Until (u : List Step) (from : Option ℕ) (high : ℕ) : Type 0 where
-  pub few : high ≤ length u
-  pub none_above : (j : ℕ) → j < length u → may u from j ≡ true → j < high
-
-pub until : (u : List Step) (from : Option ℕ) (low high : ℕ) → Enclosed (may u from) (length u) low high → Until u from high
-until u from low high h = record { few = h.1; none_above = λ j l e. (h.2 j l e).1 }
-
--- a scan of the places that enclose all there is to find
-pub scan_start : (u : List Step) (from : Option ℕ) (low high : ℕ) → Enclosed (may u from) (length u) low high → among u from low (length u - low) ≡ onward u from
-scan_start u from low high h = let l = h.0 in sym (among_skip u from low 0 low (length u) (length u - low) (omega arith) (omega arith) (λ j a b e. let k = (h.2 j (omega arith) e).0 in omega arith))
-
-pub scan_end : (u : List Step) (from : Option ℕ) (high j : ℕ) → high ≤ j → Until u from high → among u from j (length u - j) ≡ []
-scan_end u from high j l h = among_none u from j (length u - j) (λ i a b e. let k = h.none_above i (omega arith) e in omega arith)
+use Rattle.flow.specs.Counts.{limit, sum_at, ends, clipped, Counted}
+use Rattle.flow.proofs.Leading.{onward_may}
 
 -- ---- sums of counts
+pub clipped_fold : (counts js : List ℕ) (s : ℕ) → s ≤ limit → fold (λ a j. min (min (a + slice_index counts j) (2 ^ 32 - 1)) limit) s js ≡ min (s + sum_at counts js) limit
+clipped_fold counts [] s h = omega arith
+clipped_fold counts (j ∷ js) s h = omega (arith, sum_by-cons (slice_index counts) j js, clipped_fold counts js (min (min (s + slice_index counts j) (2 ^ 32 - 1)) limit) (omega arith))
+
 pub sum_clipped : (on : ℕ → List (List ℕ)) (counts js : List ℕ) → All (λ j. get_or counts j 0 ≡ min (length (on j)) limit) js → min (sum_at counts js) limit ≡ min (length (flat_map on js)) limit
 sum_clipped on counts [] h = refl
 sum_clipped on counts (j ∷ js) h = omega (arith, h.0, sum_by-cons (slice_index counts) j js, sum_clipped on counts js h.1, length-append (on j) (flat_map on js))

@@ -1,13 +1,14 @@
 -- Where control and a path may go.
-use Rattle.std.proofs.Common.{◌≡◌, ℕ, zero, suc, ◌+◌, ◌<◌, ◌≤◌, Bool, true, false, cond, ◌≢◌, ◌⊎◌, List, [], ◌∷◌, length, Some, Option, sym, refl, ap, ◌∙◌, inl, inr, ⊎_elim, true≢false, arith}
+use Rattle.std.proofs.Common.{◌≡◌, ℕ, zero, suc, ◌+◌, ◌-◌, ◌<◌, ◌≤◌, Bool, true, false, cond, ◌≢◌, ◌⊎◌, List, [], ◌∷◌, length, get_or, Some, Option, sym, refl, ap, ◌∙◌, inl, inr, ⊎_elim, true≢false, arith}
 use Rattle.std.specs.List.{AllByRecursion as All, filter, range_with_len}
 use Rattle.std.proofs.lemmas.List.{get_or_past}
 use Rattle.std.proofs.lemmas.Bool.{cond_both, cond-false, cases_lt, false_from_ne_true}
-use Rattle.std.proofs.ByRecursion.{All-weaker}
+use Rattle.std.proofs.ByRecursion.{All-weaker, All-get_or}
 use Rattle.flow.specs.declared.step.Step.{Step}
 use Rattle.flow.specs.declared.step.Step.TheVariants.{Hang, Break, Require, Plain, Split, When, Branch, Join}
 use Rattle.flow.specs.Steps.{at, is_break, leads, Next}
 use Rattle.flow.specs.Numbers.{may, onward}
+use Rattle.flow.specs.Counts.{Enclosed}
 
 pub never : {A : Type 0} → false ≡ true → A
 never e = absurd (true≢false (sym e))
@@ -54,6 +55,9 @@ among_may u from a (suc m) =
 pub onward_may : (u : List Step) (from : Option ℕ) → All (λ j. (j < length u) × (may u from j ≡ true)) (onward u from)
 onward_may u from = All-weaker _ (λ j. (j < length u) × (may u from j ≡ true)) (λ j h. (omega arith, h.2)) (onward u from) (among_may u from 0 (length u))
 
+pub onward_inside : (u : List Step) (from : Option ℕ) (i j : ℕ) → i < length (onward u from) → j ≡ get_or (onward u from) i 0 → j < length u
+onward_inside u from i j h is = rw is (All-get_or (λ x. (x < length u) × (may u from x ≡ true)) (onward u from) i 0 h (onward_may u from)).0
+
 -- x is in the list
 abbrev pub In : {X : Type 0} → X → List X → Type 0
 In x [] = ⊥
@@ -88,6 +92,23 @@ among_skip u from (suc d) a b k m eb ek h =
     ap (among u from a) e
     ∙ cond-false (may u from a) (a ∷ among u from (a + 1) (d + m)) (among u from (a + 1) (d + m)) (false_from_ne_true (may u from a) (h a (omega arith) (omega arith)))
     ∙ among_skip u from d (a + 1) b (d + m) m (omega arith) refl (λ j l k. h j (omega arith) k)
+
+-- and may end where nothing stands in the d places behind
+among_cut : (u : List Step) (from : Option ℕ) (a m d k : ℕ) → k ≡ m + d → ((j : ℕ) → a + m ≤ j → j < a + k → may u from j ≡ true → ⊥) → among u from a k ≡ among u from a m
+among_cut u from a zero d k e h = among_none u from a k (λ j l b. h j (omega arith) b)
+among_cut u from a (suc m) d k e h =
+    let more : k ≡ suc (m + d) = omega arith in
+    ap (among u from a) more
+    ∙ ap (λ (js : List ℕ). cond (may u from a) (a ∷ js) js) (among_cut u from (a + 1) m d (m + d) refl (λ j l b. h j (omega arith) (omega arith)))
+
+-- the places that enclose all there is to find
+pub enclosed : (u : List Step) (from : Option ℕ) (low high : ℕ) → Enclosed (may u from) (length u) low high → among u from low (high - low) ≡ onward u from
+enclosed u from low high h =
+    let l = h.0 in let m = h.1 in
+    sym (
+    among_skip u from low 0 low (length u) (length u - low) (omega arith) (omega arith) (λ j a b e. let k = (h.2 j (omega arith) e).0 in omega arith)
+    ∙ among_cut u from low (high - low) (length u - low - (high - low)) (length u - low) (omega arith) (λ j a b e. let k = (h.2 j (omega arith) e).1 in omega arith)
+    )
 
 -- ---- what leads on is a statement
 pub leads_inside : (u : List Step) (i j : ℕ) → Next u i j → i < length u

@@ -23,13 +23,9 @@ impl Flow {
     pub(super) fn sum(&self, counts: &Counts, from: Option<usize>) -> u32
         ensures { result ≡ min (sum_at counts.now (onward (steps_in self.now) from)) LIMIT }
     {
-        let mut sum: u32 = 0;
-        for j in self.ahead(from) {
-            if self.allows(from, j) {
-                sum = sum.saturating_add(counts[j]).min(LIMIT);
-            }
-        }
-        sum
+        self.ahead(from)
+            .filter(|&j| self.allows(from, j))
+            .fold(0, |sum: u32, j| sum.saturating_add(counts[j]).min(LIMIT))
     }
 
     // A statement's count, from those of its successors.

@@ -91,17 +91,15 @@ impl Paths {
         ensures { Picked (steps_in self.now.flow) from number result }
     {
         let mut left = u32::from(number);
-        for j in self.flow.ahead(from) {
-            if self.flow.allows(from, j) {
-                let count = self.counts[j];
-                if left < count {
-                    return Some(Turn {
-                        place: j,
-                        number: left as u16,
-                    });
-                }
-                left -= count;
+        for j in self.flow.ahead(from).filter(|&j| self.flow.allows(from, j)) {
+            let count = self.counts[j];
+            if left < count {
+                return Some(Turn {
+                    place: j,
+                    number: left as u16,
+                });
             }
+            left -= count;
         }
         None
     }
