@@ -31,7 +31,7 @@ pub(super) fn flow_of(statements: &[Statement]) -> Flow
 {
     let mut flow = Flow::new();
     for i in 0..statements.len() {
-        flow.push(step_of(statements[i]));
+        flow.push(step_of(statements[i])).unwrap();
     }
     flow
 }
