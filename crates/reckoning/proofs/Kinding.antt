@@ -9,10 +9,10 @@ use Rattle.terms.specs.declared.kind.Kind.TheVariants.{Number, Truth}
 use Rattle.terms.specs.declared.kind.Sort.{Sort}
 use Rattle.terms.specs.declared.kind.Sort.TheVariants.{Of, Same}
 use Rattle.terms.specs.declared.row.Row.{Row}
-use Rattle.terms.specs.Operators.{operands_of, result_of}
+use Rattle.terms.specs.Operators.{operands_of, result_of, each}
 use Rattle.terms.specs.Numbers.{holds, computed}
 use Rattle.terms.specs.Terms.{numbered, value}
-use Rattle.reckoning.specs.Kinds.{of_kind, of_sort, each, Chosen, Choice, alike, asked, is_kind, kinds_fit, kind_given, kinds, IsKinded}
+use Rattle.reckoning.specs.Kinds.{of_kind, of_sort, Chosen, Choice, alike, asked, is_kind, kinds_fit, kind_given, kinds, IsKinded}
 use Rattle.reckoning.specs.Evaluation.{Mentions, Kindly}
 use Rattle.reckoning.specs.Sorting.{result_sort}
 use Rattle.reckoning.proofs.Relating.{related, entry}

@@ -1,4 +1,3 @@
-pub mod Stacking
 pub mod Relating
 pub mod Mentioning
 pub mod Kinding

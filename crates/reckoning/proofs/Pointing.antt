@@ -6,11 +6,11 @@ use Rattle.terms.specs.declared.kind.Kind.{Kind}
 use Rattle.terms.specs.declared.kind.Sort.{Sort}
 use Rattle.terms.specs.declared.operator.Operator.{Operator}
 use Rattle.terms.specs.declared.row.Row.{Row}
-use Rattle.terms.specs.Operators.{operands_of}
+use Rattle.terms.specs.Operators.{operands_of, each}
 use Rattle.terms.specs.Numbers.{in_span, computed}
 use Rattle.terms.specs.Terms.{numbered, value}
 use Rattle.reckoning.specs.declared.mark.Mark.{Mark}
-use Rattle.reckoning.specs.Kinds.{of_sort, each, Chosen, Choice, kinds}
+use Rattle.reckoning.specs.Kinds.{of_sort, Chosen, Choice, kinds}
 use Rattle.reckoning.specs.Points.{is_point, any_mark, point_or, point, point_number, point_fits, point_applied, points}
 use Rattle.reckoning.specs.Evaluation.{marks_by, evaluated, Mentions, Kindly}
 use Rattle.reckoning.specs.Exactness.{Spans, Exact}

@@ -1,9 +1,12 @@
 -- Rows that stay in the span, one more at a time from the last to the first.
-use Rattle.std.proofs.Common.{◌≡◌, ℕ, zero, suc, ◌+◌, ◌-◌, ◌<◌, ◌≤◌, Bool, true, false, ◌&&◌, List, [], ◌∷◌, length, get_or, take, drop, Some, Option, sym, refl, ap, ◌∙◌, arith}
-use Rattle.std.proofs.lemmas.List.{get_or-drop, get_or_default, take-take}
+use Rattle.std.proofs.Common.{◌≡◌, ℕ, zero, suc, ◌+◌, ◌-◌, ◌<◌, ◌≤◌, Bool, true, false, ◌&&◌, List, [], ◌∷◌, length, get_or, drop, reverse, Some, Ok, Err, Option, Result, sym, refl, ap, ◌∙◌}
+use Rattle.std.specs.List.{slice_get}
+use Rattle.std.proofs.lemmas.Option.{get_or_from_slice_get}
+use Rattle.std.specs.Result.{MatchResult}
+use Rattle.terms.specs.declared.fold.Full.{Full}
 use Rattle.terms.specs.declared.row.Row.{Row}
-use Rattle.terms.specs.Terms.{fold, onto, FoldedRow}
-use Rattle.terms.proofs.Stacking.{row_next}
+use Rattle.terms.specs.Terms.{fold, FoldedRow}
+use Rattle.terms.proofs.Stacking.{Held, row_held, row_next}
 use Rattle.reckoning.specs.declared.mark.Mark.{Mark}
 use Rattle.reckoning.specs.Evaluation.{marks_by, mark_of}
 use Rattle.reckoning.specs.Points.{any_mark}
@@ -21,22 +24,16 @@ module _ {M : Type 0} (found : M → Option Mark) where
   lost_part (suc i) [] e = e
   lost_part (suc i) (r ∷ rs) e = ap (λ b. is_range (mark_of ranges found (r ∷ rs)) && b) (lost_part i rs e) ∙ and_false (is_range (mark_of ranges found (r ∷ rs)))
 
-  -- the mark at the top of the stack is the mark of the row that was read
-  pub top_is : (rows : List (Row M)) (marks : List Mark) (top : ℕ) (d : Mark) → top < length marks → drop top marks ≡ fold (marks_by ranges found) rows → get_or marks top d ≡ mark_of ranges found rows
-  top_is rows marks top d lt e =
-      let z : top ≡ top + 0 = omega arith in
-      get_or_default marks top d any_mark lt ∙ ap (λ i. get_or marks i any_mark) z ∙ sym (get_or-drop top marks 0 any_mark) ∙ ap (λ xs. get_or xs 0 any_mark) e
-
-  -- one row more is read, from a stack that holds what the rows after it leave
-  module _ (rows : List (Row M)) (i : ℕ) (row : Row M) (before after : List Mark) (top next : ℕ) (some : 0 < i) (in-it : i ≤ length rows) (is : row ≡ get_or rows (i - 1) row) (read : FoldedRow (marks_by ranges found) row before top (Some next) after) (long : length after ≡ length before) (stack : drop top before ≡ fold (marks_by ranges found) (drop i rows)) where
-    pub stack_next : drop next after ≡ fold (marks_by ranges found) (drop (i - 1) rows)
-    stack_next = read.4 ∙ ap (onto (marks_by ranges found) row) stack ∙ sym (ap (fold (marks_by ranges found)) (row_next rows i row some in-it is))
-
-    pub ranged_next : (b : Bool) (d : Mark) → b ≡ is_range (get_or after next d) → ranged_rows found (drop (i - 1) rows) ≡ (b && ranged_rows found (drop i rows))
-    ranged_next b d e =
-        let inside : next < length after = omega (arith, read.3) in
-        let rest = row_next rows i row some in-it is in
-        ap (ranged_rows found) rest ∙ ap (λ v. v && ranged_rows found (drop i rows)) (sym (e ∙ ap is_range (top_is (drop (i - 1) rows) after next d inside stack_next ∙ ap (mark_of ranges found) rest)))
-
-    pub kept_next : (n : ℕ) → n ≤ top - 1 → take n after ≡ take n before
-    kept_next n le = sym (take-take n (top - 1) after le) ∙ ap (take n) read.5 ∙ take-take n (top - 1) before le
+  module _ (rows : List (Row M)) (before : List Mark) (n : ℕ) (row : Row M) (entries after : List Mark) (top next : ℕ) (enough : length rows ≤ length before) (turn : (n < length (reverse rows)) × (row ≡ get_or (reverse rows) n row)) (held : Held (marks_by ranges found) rows before n entries top) where
+    -- one row more: it is read, and its mark says whether it stays in the span
+    pub ranged_next : (r : Result Mark Full) (b : Bool) → FoldedRow (marks_by ranges found) row entries top r after next → MatchResult r (λ x. b ≡ is_range x) (λ _. b ≡ false)
+        → (ranged_rows found (drop (length rows - (n + 1)) rows) ≡ (b && ranged_rows found (drop (length rows - n) rows))) × Held (marks_by ranges found) rows before (n + 1) after next
+    ranged_next (Ok x) b read told =
+        let step = row_held (marks_by ranges found) rows before n row entries after top next (Ok x) enough turn held read in
+        let rest = row_next rows n row turn in
+        let newest : slice_get (fold (marks_by ranges found) (drop (length rows - (n + 1)) rows)) 0 ≡ Some x = step.2 ∙ ap Some (cc step.1) in
+        let mark : mark_of ranges found (drop (length rows - (n + 1)) rows) ≡ x = get_or_from_slice_get (fold (marks_by ranges found) (drop (length rows - (n + 1)) rows)) 0 x any_mark newest in
+        (ap (ranged_rows found) rest ∙ ap (λ v. v && ranged_rows found (drop (length rows - n) rows)) (ap is_range (sym (ap (mark_of ranges found) rest) ∙ mark) ∙ sym told), step.3)
+    ranged_next (Err e) b read told =
+        let step = row_held (marks_by ranges found) rows before n row entries after top next (Err e) enough turn held read in
+        absurd (cc step.1)

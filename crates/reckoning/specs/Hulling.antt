@@ -8,12 +8,12 @@ use Rattle.terms.specs.declared.operator.Operator.{Operator}
 use Rattle.terms.specs.declared.operator.Operator.TheVariants.{Addi, Subi, Negi, Mul, Divi, Mod, Odd, Gei, Lei, Gti, Lti, Mini, Maxi, True, False, And, Or, Not, Implies, Impliedby, Notimplies, Notimpliedby, Equal, Notequal, If}
 use Rattle.terms.specs.declared.kind.Sort.{Sort}
 use Rattle.terms.specs.declared.kind.Sort.TheVariants.{Same}
-use Rattle.terms.specs.Operators.{numbers, truths, operands_of}
+use Rattle.terms.specs.Operators.{numbers, truths, operands_of, operands}
 use Rattle.terms.specs.Numbers.{in_span, computed, truth, holds, odd, same_number}
 use Rattle.reckoning.specs.declared.mark.Mark.{Mark}
 use Rattle.reckoning.specs.declared.decision.Decision.{Decision}
 use Rattle.reckoning.specs.declared.decision.Decision.TheVariants.{Yes, No, Unknown}
-use Rattle.reckoning.specs.Kinds.{of_sort, operands, Chosen, Choice}
+use Rattle.reckoning.specs.Kinds.{of_sort, Chosen, Choice}
 use Rattle.reckoning.specs.Decisions.{negated, both, either}
 use Rattle.reckoning.specs.Certain.{certain_less, certain_equal, certain_odd}
 use Rattle.reckoning.specs.Points.{any_mark}

@@ -2,10 +2,10 @@
 use Rattle.std.specs.Prelude.{◌≡◌, Bool, true, ℤ, ◌≤ℤ◌, ◌≢◌}
 use Rattle.terms.specs.declared.operator.Operator.{Operator}
 use Rattle.terms.specs.declared.operator.Operator.TheVariants.{Divi, Mod}
-use Rattle.terms.specs.Operators.{result_of}
+use Rattle.terms.specs.Operators.{result_of, operands}
 use Rattle.terms.specs.Numbers.{computed}
 use Rattle.reckoning.specs.declared.mark.Mark.{Mark}
-use Rattle.reckoning.specs.Kinds.{operands, Choice}
+use Rattle.reckoning.specs.Kinds.{Choice}
 use Rattle.reckoning.specs.Ranges.{is_range, range_holds, ranged, unknown_of}
 
 -- no operand of the operator is 'any'

@@ -1,12 +1,12 @@
 -- Kinds: which numbers are of a kind, and the kind of a term, both by the operator table.
-use Rattle.std.specs.Prelude.{◌≡◌, Bool, true, false, cond, ◌&&◌, ◌||◌, List, [], ◌∷◌, ℤ, pos, Some, None, Option}
+use Rattle.std.specs.Prelude.{◌≡◌, Bool, true, false, cond, ◌||◌, List, [], ◌∷◌, ℤ, pos, Some, None, Option}
 use Rattle.terms.specs.declared.operator.Operator.{Operator}
 use Rattle.terms.specs.declared.kind.Kind.{Kind}
 use Rattle.terms.specs.declared.kind.Kind.TheVariants.{Number, Truth}
 use Rattle.terms.specs.declared.kind.Sort.{Sort}
 use Rattle.terms.specs.declared.kind.Sort.TheVariants.{Of, Same}
 use Rattle.terms.specs.declared.row.Row.{Row}
-use Rattle.terms.specs.Operators.{operands_of, result_of}
+use Rattle.terms.specs.Operators.{operands_of, operands, result_of}
 use Rattle.terms.specs.Numbers.{same_number}
 use Rattle.terms.specs.Terms.{Algebra, outcome}
 
@@ -22,16 +22,6 @@ of_kind Truth n = is_truth n
 abbrev pub of_sort : Sort → ℤ → Bool
 of_sort (Of k) n = of_kind k n
 of_sort Same n = true
-
--- each operand passes the test of its sort
-abbrev pub each : {X : Type 0} → (Sort → X → Bool) → List Sort → List X → Bool
-each test [] xs = true
-each test (s ∷ ss) [] = false
-each test (s ∷ ss) (x ∷ xs) = test s x && each test ss xs
-
--- of the three that an operator is given, its own operands pass the test of their sorts
-abbrev pub operands : {X : Type 0} → (Sort → X → Bool) → Operator → X → X → X → Bool
-operands test o a b c = each test (operands_of o) (a ∷ b ∷ c ∷ [])
 
 -- a number for each operand, of its sort and from what stands in its place
 abbrev pub Chosen : {X : Type 0} → (X → ℤ → Type 0) → List Sort → List X → List ℤ → Type 0

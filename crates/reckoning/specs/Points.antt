@@ -4,7 +4,8 @@ use Rattle.terms.specs.declared.operator.Operator.{Operator}
 use Rattle.terms.specs.declared.kind.Sort.{Sort}
 use Rattle.terms.specs.Numbers.{in_span, spanned, same_number, computed}
 use Rattle.reckoning.specs.declared.mark.Mark.{Mark}
-use Rattle.reckoning.specs.Kinds.{of_sort, operands}
+use Rattle.terms.specs.Operators.{operands}
+use Rattle.reckoning.specs.Kinds.{of_sort}
 use Rattle.reckoning.specs.Decisions.{decision}
 use Rattle.reckoning.specs.Reckonings.{Meaning}
 

@@ -7,10 +7,10 @@ use Rattle.terms.specs.declared.operator.Operator.{Operator}
 use Rattle.terms.specs.declared.operator.Operator.TheVariants.{Addi, Subi, Negi, Mul, Divi, Mod, Odd, Gei, Lei, Gti, Lti, Mini, Maxi, True, False, And, Or, Not, Implies, Impliedby, Notimplies, Notimpliedby, Equal, Notequal, If}
 use Rattle.terms.specs.declared.kind.Sort.{Sort}
 use Rattle.terms.specs.declared.kind.Sort.TheVariants.{Same}
-use Rattle.terms.specs.Operators.{numbers, truths}
+use Rattle.terms.specs.Operators.{numbers, truths, operands}
 use Rattle.terms.specs.Numbers.{same_number, computed}
 use Rattle.reckoning.specs.declared.mark.Mark.{Mark}
-use Rattle.reckoning.specs.Kinds.{operands, Choice}
+use Rattle.reckoning.specs.Kinds.{Choice}
 use Rattle.reckoning.specs.Reckonings.{Lawful}
 use Rattle.reckoning.specs.Points.{is_point, point_holds, any_mark, point, point_fits, point_applied, point_met, points}
 

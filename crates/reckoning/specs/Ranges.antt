@@ -6,12 +6,11 @@ use Rattle.terms.specs.declared.operator.Operator.TheVariants.{Addi, Subi, Negi,
 use Rattle.terms.specs.declared.kind.Kind.TheVariants.{Number, Truth}
 use Rattle.terms.specs.declared.kind.Sort.{Sort}
 use Rattle.terms.specs.declared.kind.Sort.TheVariants.{Of, Same}
-use Rattle.terms.specs.Operators.{result_of}
+use Rattle.terms.specs.Operators.{result_of, operands}
 use Rattle.terms.specs.Numbers.{in_span}
 use Rattle.reckoning.specs.declared.mark.Mark.{Mark}
 use Rattle.reckoning.specs.declared.decision.Decision.{Decision}
 use Rattle.reckoning.specs.declared.decision.Decision.TheVariants.{Yes, No, Unknown}
-use Rattle.reckoning.specs.Kinds.{operands}
 use Rattle.reckoning.specs.Decisions.{decision, negated, both, either}
 use Rattle.reckoning.specs.Certain.{certain_less, certain_equal, certain_odd}
 use Rattle.reckoning.specs.Reckonings.{Meaning}

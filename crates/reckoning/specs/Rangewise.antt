@@ -8,12 +8,12 @@ use Rattle.terms.specs.declared.operator.Operator.{Operator}
 use Rattle.terms.specs.declared.kind.Kind.TheVariants.{Number, Truth}
 use Rattle.terms.specs.declared.kind.Sort.{Sort}
 use Rattle.terms.specs.declared.kind.Sort.TheVariants.{Of, Same}
-use Rattle.terms.specs.Operators.{operands_of, result_of}
+use Rattle.terms.specs.Operators.{operands_of, result_of, each, operands}
 use Rattle.terms.specs.Numbers.{in_span, computed}
 use Rattle.reckoning.specs.declared.mark.Mark.{Mark}
 use Rattle.reckoning.specs.declared.decision.Decision.TheVariants.{Yes, No}
 use Rattle.reckoning.specs.Decisions.{decision}
-use Rattle.reckoning.specs.Kinds.{of_sort, each, operands, Chosen, Choice}
+use Rattle.reckoning.specs.Kinds.{of_sort, Chosen, Choice}
 use Rattle.reckoning.specs.Reckonings.{Lawful}
 use Rattle.reckoning.specs.Points.{any_mark}
 use Rattle.reckoning.specs.Ranges.{is_range, within, range_holds, between, ranged, range_bounded, unknown_of, range_fits, range_computed, range_applied, overlap, range_met, ranges}

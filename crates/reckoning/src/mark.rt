@@ -1,6 +1,6 @@
 // Marks: what is known of a number. A mark is an element of an abstract domain, and each reckoning says which numbers it stands for.
 
-#[derive(Clone, Copy, PartialEq, Eq)]
+#[derive(Clone, Copy, Debug, PartialEq, Eq)]
 pub struct Mark {
     pub low: i64,
     pub high: i64,

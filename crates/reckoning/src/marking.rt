@@ -4,9 +4,9 @@ ghost use Rattle.std.specs.Prelude.{◌≡◌};
 ghost use Rattle.reckoning.specs.Evaluation.{marks_by};
 
 use super::mark::Mark;
-use super::mentions::Mentions;
 use super::reckoning::Reckoning;
 use terms::fold::Interpretation;
+use terms::mentions::Mentions;
 use terms::operator::Operator;
 
 // The marks of rows: what a reckoning answers, with the mark of each mention.
@@ -16,7 +16,7 @@ pub struct Marking<'n, 'r, N, R> {
     pub reckoning: &'r R,
 }
 
-impl<'n, 'r, M: Copy, N: Mentions<M>, R: Reckoning> Interpretation<M, Mark>
+impl<'n, 'r, M: Copy, N: Mentions<M, Mark>, R: Reckoning> Interpretation<M, Mark>
     for Marking<'n, 'r, N, R> {
     ghost algebra = { λ s. marks_by (R.Reckoning.meaning s.reckoning.now) (N.Mentions.found s.mentions.now) };
 

@@ -1,33 +1,20 @@
-// Mentions: where the marks of what a term mentions are found.
+// Mentions of cells, which a term mentions by number.
 
-ghost use Rattle.std.specs.Prelude.{◌≡◌, Option};
 ghost use Rattle.std.specs.List.{slice_get};
-ghost use Rattle.reckoning.specs.declared.mark.Mark.{Mark};
 
 use super::mark::Mark;
+use terms::mentions::Mentions;
 
-pub trait Mentions<M> {
-    ghost found: { Self → M → Option Mark };
-
-    // `None` for an unknown mention.
-    fn find(&self, mention: M) -> Option<Mark>
-        ensures { result ≡ found self.now mention };
-}
-
-// The marks of cells, which are mentioned by number.
-#[derive(Clone, Copy)]
+// The marks of cells.
+#[derive(Clone, Copy, Debug)]
 pub struct Cells<'a> {
     pub marks: &'a [Mark],
 }
 
-impl<'a> Mentions<usize> for Cells<'a> {
+impl<'a> Mentions<usize, Mark> for Cells<'a> {
     ghost found = { λ s i. slice_get s.marks.now i };
 
     fn find(&self, mention: usize) -> Option<Mark> {
-        if mention < self.marks.len() {
-            Some(self.marks[mention])
-        } else {
-            None
-        }
+        self.marks.get(mention).copied()
     }
 }

@@ -1,7 +1,7 @@
 // Points: one number of the span, or any number; the abstract domain of constants.
 
 ghost use Rattle.std.specs.Prelude.{◌≡◌, ◌-◌, ◌<◌, ◌≤◌, true, ◌&&◌, length, take};
-ghost use Rattle.reckoning.specs.Kinds.{is_truth, operands};
+ghost use Rattle.terms.specs.Operators.{passes, operands};
 ghost use Rattle.reckoning.specs.Points.{is_point, point_holds, point_or, point_number, point_fits, points};
 ghost use Rattle.reckoning.specs.Evaluation.{evaluated};
 ghost use Rattle.reckoning.specs.Exactness.{Exact, Right};
@@ -10,62 +10,70 @@ ghost use Rattle.reckoning.specs.Pointwise;
 use super::decision::Decision;
 use super::evaluation::evaluate;
 use super::mark::{ANY, Mark};
-use super::mentions::Mentions;
 use super::reckoning::Reckoning;
-use terms::number::{GREATEST, LEAST, in_span};
+use terms::kind::{Kind, Sort};
+use terms::mentions::Mentions;
+use terms::number::{in_span, spans};
 use terms::operator::Operator;
 use terms::row::Row;
 
-#[derive(Clone, Copy)]
+#[derive(Clone, Copy, Debug, PartialEq, Eq)]
 pub struct Points;
 
-fn is_point(mark: Mark) -> bool
-    ensures { result ≡ is_point mark }
-{
-    mark.low == mark.high && mark.low >= LEAST && mark.low <= GREATEST
-}
+impl Mark {
+    fn is_point(self) -> bool
+        ensures { result ≡ is_point self }
+    {
+        self.low == self.high && spans(self.low)
+    }
 
-fn is_truth(mark: Mark) -> bool
-    ensures { result ≡ (is_point mark && is_truth mark.low) }
-{
-    is_point(mark) && (mark.low == 0 || mark.low == 1)
+    // The number that it stands for, if it is one alone.
+    fn number(self) -> Option<i64>
+        ensures { result ≡ point_number self }
+    {
+        self.is_point().then_some(self.low)
+    }
+
+    fn point_or_any(number: Option<i64>) -> Mark
+        ensures { result ≡ point_or number }
+    {
+        number.map_or(
+            ANY,
+            |number| Mark {
+                low: number,
+                high: number,
+            },
+        )
+    }
 }
 
 fn holds(mark: Mark, number: i64) -> bool
     ensures { result ≡ point_holds mark number }
 {
-    !is_point(mark) || mark.low == number
+    !mark.is_point() || mark.low == number
 }
 
-fn point_or_any(number: Option<i64>) -> Mark
-    ensures { result ≡ point_or number }
+fn fits(sort: Sort, mark: Mark) -> bool
+    ensures { result ≡ point_fits sort mark }
 {
-    match number {
-        Some(number) => Mark {
-            low: number,
-            high: number,
-        },
-        None => ANY,
-    }
+    let is_truth = mark.low == 0 || mark.low == 1;
+    mark.is_point() && (is_truth || sort != Sort::Of(Kind::Truth))
 }
 
-// Whether each operand of the operator is a point, and a truth where it takes one.
+// Whether an operand is a point, and a truth where its place takes one.
+fn is_ready(operand: Option<(Sort, Mark)>) -> bool
+    ensures { result ≡ passes point_fits operand }
+{
+    operand.is_none_or(|(sort, mark)| fits(sort, mark))
+}
+
 fn are_ready(operator: Operator, a: Mark, b: Mark, c: Mark) -> bool
     ensures { result ≡ operands point_fits operator a b c }
 {
-    match operator {
-        Operator::True | Operator::False => true,
-        Operator::Negi | Operator::Odd => is_point(a),
-        Operator::Not => is_truth(a),
-        Operator::And
-        | Operator::Or
-        | Operator::Implies
-        | Operator::Impliedby
-        | Operator::Notimplies
-        | Operator::Notimpliedby => is_truth(a) && is_truth(b),
-        Operator::If => is_truth(a) && is_point(b) && is_point(c),
-        _ => is_point(a) && is_point(b),
-    }
+    operator
+        .sorted(a, b, c)
+        .iter()
+        .all(|&operand| is_ready(operand))
 }
 
 impl Reckoning for Points {
@@ -80,7 +88,7 @@ impl Reckoning for Points {
     }
 
     fn constant(&self, number: i64) -> Mark {
-        point_or_any(in_span(number as i128))
+        Mark::point_or_any(in_span(number as i128))
     }
 
     fn bounds(&self, low: i64, high: i64) -> Mark {
@@ -89,14 +97,14 @@ impl Reckoning for Points {
 
     fn apply(&self, operator: Operator, a: Mark, b: Mark, c: Mark) -> Mark {
         if are_ready(operator, a, b, c) {
-            point_or_any(operator.compute(a.low, b.low, c.low))
+            Mark::point_or_any(operator.compute(a.low, b.low, c.low))
         } else {
             ANY
         }
     }
 
     fn meet(&self, a: Mark, b: Mark) -> Option<Mark> {
-        if !is_point(a) {
+        if !a.is_point() {
             Some(b)
         } else if holds(b, a.low) {
             Some(a)
@@ -110,14 +118,8 @@ impl Reckoning for Points {
     }
 }
 
-fn number_at(mark: Mark) -> Option<i64>
-    ensures { result ≡ point_number mark }
-{
-    if is_point(mark) { Some(mark.low) } else { None }
-}
-
 // The number of a term, where the points of its mentions tell it. It touches the working marks as `evaluate` does.
-pub fn number_of<M: Copy, N: Mentions<M>>(
+pub fn number_of<M: Copy, N: Mentions<M, Mark>>(
     mentions: &N,
     rows: &[Row<M>],
     working: &mut [Mark],
@@ -128,5 +130,5 @@ pub fn number_of<M: Copy, N: Mentions<M>>(
     ensures exact { length rows.now ≤ length working.old → Exact (N.found mentions.now) rows.now result }
     ensures right { Right (N.found mentions.now) rows.now result }
 {
-    number_at(evaluate(&Points, mentions, rows, working))
+    evaluate(&Points, mentions, rows, working).number()
 }

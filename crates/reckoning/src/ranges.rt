@@ -1,8 +1,7 @@
 // Ranges: the numbers from a low to a high within the span, or any number; the abstract domain of intervals.
 
-ghost use Rattle.std.specs.Prelude.{◌≡◌, true, ◌&&◌, ◌||◌, pos};
-ghost use Rattle.terms.specs.Operators.{result_of, truths};
-ghost use Rattle.reckoning.specs.Kinds.{operands};
+ghost use Rattle.std.specs.Prelude.{◌≡◌, true};
+ghost use Rattle.terms.specs.Operators.{result_of, truths, passes, operands};
 ghost use Rattle.reckoning.specs.Points.{any_mark};
 ghost use Rattle.reckoning.specs.Ranges.{is_range, within, range_holds, ranged, truth_range, unknown_of, range_decided, range_fits, least4, greatest4, products as products_of, divided, joined as joined_of, picked, range_computed, range_applied, overlap as overlap_of, ranges};
 ghost use Rattle.reckoning.specs.Hulls.{Tightly};
@@ -12,34 +11,48 @@ use super::certain::{equal, less, odd};
 use super::decision::Decision;
 use super::mark::{ANY, Mark};
 use super::reckoning::Reckoning;
-use terms::number::{GREATEST, LEAST, in_span, product};
+use terms::kind::{Kind, Sort};
+use terms::number::{in_span, product, spans};
 use terms::operator::Operator;
 
-#[derive(Clone, Copy)]
+#[derive(Clone, Copy, Debug, PartialEq, Eq)]
 pub struct Ranges;
 
-pub(super) fn is_range(mark: Mark) -> bool
-    ensures { result ≡ is_range mark }
-{
-    LEAST <= mark.low && mark.low <= mark.high && mark.high <= GREATEST
-}
+impl Mark {
+    pub(super) fn is_range(self) -> bool
+        ensures { result ≡ is_range self }
+    {
+        self.low <= self.high && spans(self.low) && spans(self.high)
+    }
 
-fn is_within(mark: Mark, number: i64) -> bool
-    ensures { result ≡ within mark number }
-{
-    mark.low <= number && number <= mark.high
-}
+    fn contains(self, number: i64) -> bool
+        ensures { result ≡ within self number }
+    {
+        (self.low..=self.high).contains(&number)
+    }
 
-fn has_truth(mark: Mark) -> bool
-    ensures { result ≡ (is_range mark && (within mark (pos 0) || within mark (pos 1))) }
-{
-    is_range(mark) && (is_within(mark, 0) || is_within(mark, 1))
+    fn range_or_any(low: i128, high: i128) -> Mark
+        ensures { result ≡ ranged low high }
+    {
+        let bounds = in_span(low).zip(in_span(high));
+        bounds.map_or(ANY, |(low, high)| Mark { low, high })
+    }
+
+    fn truths(decision: Decision) -> Mark
+        ensures { result ≡ truth_range decision }
+    {
+        match decision {
+            Decision::Yes => Mark { low: 1, high: 1 },
+            Decision::No => Mark { low: 0, high: 0 },
+            Decision::Unknown => Mark { low: 0, high: 1 },
+        }
+    }
 }
 
 fn holds(mark: Mark, number: i64) -> bool
     ensures { result ≡ range_holds mark number }
 {
-    !is_range(mark) || is_within(mark, number)
+    !mark.is_range() || mark.contains(number)
 }
 
 // What a range says of a truth, of which it may hold other numbers too.
@@ -49,59 +62,37 @@ fn decision(mark: Mark) -> Decision
     Decision::of(holds(mark, 1), holds(mark, 0))
 }
 
-fn range_or_any(low: i128, high: i128) -> Mark
-    ensures { result ≡ ranged low high }
+fn fits(sort: Sort, mark: Mark) -> bool
+    ensures { result ≡ range_fits sort mark }
 {
-    match (in_span(low), in_span(high)) {
-        (Some(low), Some(high)) => Mark { low, high },
-        _ => ANY,
-    }
+    let has_truth = mark.contains(0) || mark.contains(1);
+    mark.is_range() && (has_truth || sort != Sort::Of(Kind::Truth))
 }
 
-fn truth_range(decision: Decision) -> Mark
-    ensures { result ≡ truth_range decision }
+// Whether an operand is a range with a number of its sort.
+fn has_choice(operand: Option<(Sort, Mark)>) -> bool
+    ensures { result ≡ passes range_fits operand }
 {
-    match decision {
-        Decision::Yes => Mark { low: 1, high: 1 },
-        Decision::No => Mark { low: 0, high: 0 },
-        Decision::Unknown => Mark { low: 0, high: 1 },
-    }
+    operand.is_none_or(|(sort, mark)| fits(sort, mark))
 }
 
-// Whether each operand of the operator is a range with a number of its kind.
 fn have_choice(operator: Operator, a: Mark, b: Mark, c: Mark) -> bool
     ensures { result ≡ operands range_fits operator a b c }
 {
-    match operator {
-        Operator::True | Operator::False => true,
-        Operator::Negi | Operator::Odd => is_range(a),
-        Operator::Not => has_truth(a),
-        Operator::And
-        | Operator::Or
-        | Operator::Implies
-        | Operator::Impliedby
-        | Operator::Notimplies
-        | Operator::Notimpliedby => has_truth(a) && has_truth(b),
-        Operator::If => has_truth(a) && is_range(b) && is_range(c),
-        _ => is_range(a) && is_range(b),
-    }
+    operator
+        .sorted(a, b, c)
+        .iter()
+        .all(|&operand| has_choice(operand))
 }
 
 // The result of an operator without a choice: a truth is 0 to 1 all the same.
 fn unknown(operator: Operator) -> Mark
     ensures { result ≡ unknown_of (result_of operator) }
 {
-    match operator {
-        Operator::Addi
-        | Operator::Subi
-        | Operator::Negi
-        | Operator::Mul
-        | Operator::Divi
-        | Operator::Mod
-        | Operator::Mini
-        | Operator::Maxi
-        | Operator::If => ANY,
-        _ => truth_range(Decision::Unknown),
+    if operator.signature().result == Sort::Of(Kind::Truth) {
+        Mark::truths(Decision::Unknown)
+    } else {
+        ANY
     }
 }
 
@@ -125,7 +116,7 @@ fn products(a: Mark, b: Mark) -> Mark
     let q = product(a.low, b.high);
     let r = product(a.high, b.low);
     let s = product(a.high, b.high);
-    range_or_any(least(p, q, r, s), greatest(p, q, r, s))
+    Mark::range_or_any(least(p, q, r, s), greatest(p, q, r, s))
 }
 
 // A quotient and a remainder are no greater than the dividend, in magnitude.
@@ -133,13 +124,13 @@ fn within_dividend(a: Mark) -> Mark
     ensures { result ≡ divided a }
 {
     let size = a.low.unsigned_abs().max(a.high.unsigned_abs()) as i128;
-    range_or_any(-size, size)
+    Mark::range_or_any(-size, size)
 }
 
 fn joined(a: Mark, b: Mark) -> Mark
     ensures { result ≡ joined_of a b }
 {
-    range_or_any(a.low.min(b.low) as i128, a.high.max(b.high) as i128)
+    Mark::range_or_any(a.low.min(b.low) as i128, a.high.max(b.high) as i128)
 }
 
 fn choice(condition: Decision, a: Mark, b: Mark) -> Mark
@@ -193,21 +184,21 @@ fn computed(operator: Operator, a: Mark, b: Mark, c: Mark) -> Mark
     ensures { result ≡ range_computed operator a b c }
 {
     match operator {
-        Operator::Addi => range_or_any(
+        Operator::Addi => Mark::range_or_any(
             a.low as i128 + b.low as i128,
             a.high as i128 + b.high as i128,
         ),
-        Operator::Subi => range_or_any(
+        Operator::Subi => Mark::range_or_any(
             a.low as i128 - b.high as i128,
             a.high as i128 - b.low as i128,
         ),
-        Operator::Negi => range_or_any(-(a.high as i128), -(a.low as i128)),
+        Operator::Negi => Mark::range_or_any(-(a.high as i128), -(a.low as i128)),
         Operator::Mul => products(a, b),
         Operator::Divi | Operator::Mod => within_dividend(a),
-        Operator::Mini => range_or_any(a.low.min(b.low) as i128, a.high.min(b.high) as i128),
-        Operator::Maxi => range_or_any(a.low.max(b.low) as i128, a.high.max(b.high) as i128),
+        Operator::Mini => Mark::range_or_any(a.low.min(b.low) as i128, a.high.min(b.high) as i128),
+        Operator::Maxi => Mark::range_or_any(a.low.max(b.low) as i128, a.high.max(b.high) as i128),
         Operator::If => choice(decision(a), b, c),
-        _ => truth_range(decided(operator, a, b)),
+        _ => Mark::truths(decided(operator, a, b)),
     }
 }
 
@@ -233,12 +224,12 @@ impl Reckoning for Ranges {
     }
 
     fn constant(&self, number: i64) -> Mark {
-        range_or_any(number as i128, number as i128)
+        Mark::range_or_any(number as i128, number as i128)
     }
 
     fn bounds(&self, low: i64, high: i64) -> Mark {
         let range = Mark { low, high };
-        if is_range(range) { range } else { ANY }
+        if range.is_range() { range } else { ANY }
     }
 
     fn apply(&self, operator: Operator, a: Mark, b: Mark, c: Mark) -> Mark
@@ -249,9 +240,9 @@ impl Reckoning for Ranges {
     }
 
     fn meet(&self, a: Mark, b: Mark) -> Option<Mark> {
-        if !is_range(a) {
+        if !a.is_range() {
             Some(b)
-        } else if !is_range(b) {
+        } else if !b.is_range() {
             Some(a)
         } else {
             overlap(a, b)

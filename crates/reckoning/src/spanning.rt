@@ -5,13 +5,13 @@ ghost use Rattle.reckoning.specs.Spanning.{ranged_rows};
 
 use super::mark::Mark;
 use super::marking::Marking;
-use super::mentions::Mentions;
-use super::ranges::{Ranges, is_range};
-use terms::fold::fold_row;
+use super::ranges::Ranges;
+use terms::fold::Stack;
+use terms::mentions::Mentions;
 use terms::row::Row;
 
 // Whether the mark of every row is a range, and none 'any'. It touches the working marks as `evaluate` does, and with fewer of them than rows it says no.
-pub fn stays_in_span<M: Copy, N: Mentions<M>>(
+pub fn stays_in_span<M: Copy, N: Mentions<M, Mark>>(
     mentions: &N,
     rows: &[Row<M>],
     working: &mut [Mark],
@@ -27,15 +27,11 @@ pub fn stays_in_span<M: Copy, N: Mentions<M>>(
         mentions,
         reckoning: &Ranges,
     };
-    let mut top = working.len();
-    for i in (0..rows.len()).rev() {
-        let Some(next) = fold_row(&marking, rows[i], working, top) else {
-            return false;
-        };
-        if !is_range(working[next]) {
+    let mut stack = Stack::new(working);
+    for row in rows.iter().rev() {
+        if !stack.read(&marking, *row).is_ok_and(Mark::is_range) {
             return false;
         }
-        top = next;
     }
     true
 }

@@ -4,8 +4,9 @@ use reckoning::mark::{ANY, Mark};
 use reckoning::points::Points;
 use reckoning::ranges::Ranges;
 use reckoning::reckoning::Reckoning;
+use std::process::Abort;
 use terms::kind::{Kind, Sort};
-use terms::operator::{Operands, Operator};
+use terms::operator::Operator;
 
 static OPERATORS: [Operator; 25] = [
     Operator::Addi,
@@ -81,24 +82,21 @@ fn is_of(sort: Sort, number: i64) -> bool {
 
 fn is_suited(operator: Operator, numbers: [i64; 3]) -> bool {
     let [x, y, z] = numbers;
-    match operator.signature().operands {
-        Operands::None => true,
-        Operands::One(a) => is_of(a, x),
-        Operands::Two(a, b) => is_of(a, x) && is_of(b, y),
-        Operands::Three(a, b, c) => is_of(a, x) && is_of(b, y) && is_of(c, z),
-    }
+    operator
+        .sorted(x, y, z)
+        .iter()
+        .flatten()
+        .all(|&(sort, number)| is_of(sort, number))
 }
 
-fn widened(range: Option<Mark>, number: i64) -> Option<Mark> {
-    match range {
-        None => Some(Mark {
-            low: number,
-            high: number,
-        }),
-        Some(range) => Some(Mark {
-            low: range.low.min(number),
-            high: range.high.max(number),
-        }),
+fn widened(range: Option<Mark>, number: i64) -> Mark {
+    let Mark { low, high } = range.unwrap_or(Mark {
+        low: number,
+        high: number,
+    });
+    Mark {
+        low: low.min(number),
+        high: high.max(number),
     }
 }
 
@@ -110,7 +108,7 @@ fn hull(operator: Operator, a: Mark, b: Mark, c: Mark) -> Option<Mark> {
             for z in c.low..=c.high {
                 if is_suited(operator, [x, y, z]) {
                     if let Some(number) = operator.compute(x, y, z) {
-                        range = widened(range, number);
+                        range = Some(widened(range, number));
                     }
                 }
             }
@@ -137,19 +135,34 @@ fn expected(operator: Operator, a: Mark, b: Mark, c: Mark) -> Mark {
     }
 }
 
-#[test]
-fn ranges_agree_with_all_choices(rt: HostRuntime) {
+// Whether a reckoning answers as expected for every operator over all those marks.
+fn agrees<R: Reckoning, F: Fn(Operator, Mark, Mark, Mark) -> Mark>(
+    rt: &impl Abort,
+    reckoning: &R,
+    expected: F,
+)
+    requires { F.IsAlwaysCallable expected }
+{
     for operator in &OPERATORS {
         for a in operands(*operator, 0) {
             for b in operands(*operator, 1) {
                 for c in operands(*operator, 2) {
                     assert!(rt;
-                        Ranges.apply(*operator, *a, *b, *c) == expected(*operator, *a, *b, *c)
+                        reckoning.apply(*operator, *a, *b, *c) == expected(*operator, *a, *b, *c)
                     );
                 }
             }
         }
     }
+}
+
+#[test]
+fn ranges_agree_with_all_choices(rt: HostRuntime) {
+    agrees(
+        &rt,
+        &Ranges,
+        |operator, a, b, c| expected(operator, a, b, c),
+    );
 }
 
 // Points have one choice at most, and a mark that is no point has none for them.
@@ -157,23 +170,14 @@ fn expected_point(operator: Operator, a: Mark, b: Mark, c: Mark) -> Mark {
     if a.low != a.high || b.low != b.high || c.low != c.high {
         return ANY;
     }
-    match hull(operator, a, b, c) {
-        None => ANY,
-        Some(point) => point,
-    }
+    hull(operator, a, b, c).unwrap_or(ANY)
 }
 
 #[test]
 fn points_agree_with_the_one_choice(rt: HostRuntime) {
-    for operator in &OPERATORS {
-        for a in operands(*operator, 0) {
-            for b in operands(*operator, 1) {
-                for c in operands(*operator, 2) {
-                    assert!(rt;
-                        Points.apply(*operator, *a, *b, *c) == expected_point(*operator, *a, *b, *c)
-                    );
-                }
-            }
-        }
-    }
+    agrees(
+        &rt,
+        &Points,
+        |operator, a, b, c| expected_point(operator, a, b, c),
+    );
 }

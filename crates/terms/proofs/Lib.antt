@@ -1,3 +1,4 @@
 pub mod Table
 pub mod Wide
 pub mod Stacking
+pub mod Sorts

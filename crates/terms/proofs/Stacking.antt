@@ -1,45 +1,59 @@
--- The stack at the end of the lent entries.
-use Rattle.std.proofs.Common.{◌≡◌, ℕ, ◌+◌, ◌-◌, ◌<◌, ◌≤◌, List, ◌∷◌, length, get_or, drop, set, ℤ, sym, ap, ◌∙◌, ap₂, arith}
-use Rattle.std.proofs.lemmas.List.{drop-set, drop-drop, drop_all, drop_more, get_or-drop, get_or_past, get_or_default}
+-- The stack in the lent entries.
+use Rattle.std.proofs.Common.{◌≡◌, ℕ, ◌+◌, ◌-◌, ◌<◌, ◌≤◌, List, ◌∷◌, length, get_or, take, drop, reverse, Some, Ok, Err, Result, refl, sym, ap, ◌∙◌, ap₂, arith}
+use Rattle.std.proofs.lemmas.List.{drop_more, get_or-reverse, length-reverse, take-take}
+use Rattle.std.specs.List.{slice_get}
+use Rattle.terms.specs.declared.fold.Full.{Full}
 use Rattle.terms.specs.declared.operator.Operator.{Operator}
 use Rattle.terms.specs.declared.row.Row.{Row}
-use Rattle.terms.specs.declared.row.Row.TheVariants.{Constant, Mention, Operator as Applied}
+use Rattle.terms.specs.declared.row.Row.TheVariants.{Operator as Applied}
 use Rattle.terms.specs.Operators.{arity}
-use Rattle.terms.specs.Terms.{Algebra, onto}
+use Rattle.terms.specs.Terms.{Algebra, onto, fold, Replaced, FoldedRow}
 
-module _ {X : Type 0} (xs : List X) (top : ℕ) where
-  -- an entry put before what stands from `top` on
-  pub pushed : (y : X) → 0 < top → top ≤ length xs → drop (top - 1) (set xs (top - 1) y) ≡ y ∷ drop top xs
-  pushed y some in-it =
-      let e : top - 1 + 1 ≡ top = omega arith in
-      drop-set xs (top - 1) y (omega arith) ∙ ap (λ i. y ∷ drop i xs) e
-
-  pub all_taken : (n : ℕ) → top ≤ length xs → length xs - top ≤ n → drop (length xs) xs ≡ drop n (drop top xs)
-  all_taken n in-it le = drop_all (length xs) xs (omega arith) ∙ sym (drop-drop n top xs ∙ drop_all (top + n) xs (omega arith))
-
-  pub entry_in : (k : ℕ) (d e : X) → k < length xs - top → get_or xs (top + k) d ≡ get_or (drop top xs) k e
-  entry_in k d e lt = get_or_default xs (top + k) d e (omega arith) ∙ sym (get_or-drop top xs k e)
-
-  pub entry_past : (k : ℕ) (d : X) → top ≤ length xs → length xs - top ≤ k → d ≡ get_or (drop top xs) k d
-  entry_past k d in-it le = sym (get_or-drop top xs k d ∙ get_or_past xs (top + k) d (omega arith))
-
--- the row that is read next, from the last to the first
-pub row_next : {X : Type 0} (rows : List X) (i : ℕ) (x : X) → 0 < i → i ≤ length rows → x ≡ get_or rows (i - 1) x → drop (i - 1) rows ≡ x ∷ drop i rows
-row_next rows i x some in-it is =
-    let e : i - 1 + 1 ≡ i = omega arith in
-    drop_more rows (i - 1) x (omega arith) ∙ ap₂ (λ y k. y ∷ drop k rows) (sym is) e
-
--- a row, by the entry that it puts on what is left of the stack
-module _ {M X : Type 0} (g : Algebra M X) (row : Row M) (st : List X) (entry : X) where
-  pub constant_read : (n : ℤ) → row ≡ Constant n → entry ≡ g.constant n → entry ∷ st ≡ onto g row st
-  constant_read n is e = ap (λ m. m ∷ st) e ∙ ap (λ q. onto g q st) (sym is)
-
-  pub mention_read : (m : M) → row ≡ Mention m → entry ≡ g.mention m → entry ∷ st ≡ onto g row st
-  mention_read m is e = ap (λ k. k ∷ st) e ∙ ap (λ q. onto g q st) (sym is)
-
-  pub operator_read : (o : Operator) (none x y z : X) (left : List X) → none ≡ g.absent → row ≡ Applied o → x ≡ get_or st 0 none → y ≡ get_or st 1 none → z ≡ get_or st 2 none → entry ≡ g.operator o x y z → left ≡ drop (arity o) st → entry ∷ left ≡ onto g row st
-  operator_read o none x y z left top is p q s e l =
+module _ {M X : Type 0} (g : Algebra M X) (row : Row M) where
+  -- an operator, by the entry that it puts in the place of its operands
+  pub operator_read : (st : List X) (o : Operator) (none entry x y z : X) (n : ℕ) → none ≡ g.absent → row ≡ Applied o → x ≡ get_or st 0 none → y ≡ get_or st 1 none → z ≡ get_or st 2 none → entry ≡ g.operator o x y z → n ≡ arity o → entry ∷ drop n st ≡ onto g row st
+  operator_read st o none entry x y z n top is p q s e l =
       let given : (k : ℕ) → get_or st k none ≡ get_or st k g.absent = λ k. ap (get_or st k) top in
       let made : entry ≡ g.operator o (get_or st 0 g.absent) (get_or st 1 g.absent) (get_or st 2 g.absent) =
       e ∙ ap₂ (λ a b. g.operator o a b z) (p ∙ given 0) (q ∙ given 1) ∙ ap (g.operator o (get_or st 0 g.absent) (get_or st 1 g.absent)) (s ∙ given 2) in
-      ap₂ ◌∷◌ made l ∙ ap (λ q. onto g q st) (sym is)
+      ap₂ (λ m k. m ∷ drop k st) made l ∙ ap (λ q. onto g q st) (sym is)
+
+  pub row_read : (before : List X) (top taken : ℕ) (x : X) (r : Result X Full) (after : List X) (next : ℕ) → x ∷ drop taken (drop top before) ≡ onto g row (drop top before) → Replaced taken x before top r after next → FoldedRow g row before top r after next
+  row_read before top taken x (Ok y) after next is h = (ap (λ st. slice_get st 0) (sym is) ∙ ap Some (sym h.0), h.1, h.2, h.3 ∙ is, h.4)
+  row_read before top taken x (Err _) after next is h = h
+
+-- the row that comes when so many have come, from the last to the first
+pub row_next : {X : Type 0} (rows : List X) (n : ℕ) (x : X) → (n < length (reverse rows)) × (x ≡ get_or (reverse rows) n x) → drop (length rows - (n + 1)) rows ≡ x ∷ drop (length rows - n) rows
+row_next rows n x h =
+    let small : n < length rows = simp length-reverse at h.0 in
+    let e : length rows - 1 - n + 1 ≡ length rows - n = omega arith in
+    let f : length rows - (n + 1) ≡ length rows - 1 - n = omega arith in
+    ap (λ k. drop k rows) f ∙ drop_more rows (length rows - 1 - n) x (omega arith) ∙ ap₂ (λ y k. y ∷ drop k rows) (sym (h.1 ∙ get_or-reverse rows n x small)) e
+
+module _ {M X : Type 0} (g : Algebra M X) (rows : List (Row M)) (before : List X) where
+  -- so many rows are read, from the last on, onto a stack at the end of the entries
+  abbrev pub Held : ℕ → List X → ℕ → Type 0
+  Held n entries top = record {
+    room : length before ≤ top + n;
+    kept : take (length before - length rows) entries ≡ take (length before - length rows) before;
+    folded : drop top entries ≡ fold g (drop (length rows - n) rows);
+  }
+
+  -- the next row finds room, and what it comes to is the newest entry
+  pub row_held : (n : ℕ) (row : Row M) (entries after : List X) (top next : ℕ) (r : Result X Full) → length rows ≤ length before → (n < length (reverse rows)) × (row ≡ get_or (reverse rows) n row) → Held n entries top → FoldedRow g row entries top r after next
+      → (x : X) × (r ≡ Ok x) × (slice_get (fold g (drop (length rows - (n + 1)) rows)) 0 ≡ Some x) × Held (n + 1) after next
+  row_held n row entries after top next (Ok x) enough turn held read =
+      let k = length before - length rows in
+      let inside : k ≤ top - 1 = omega (arith, held.room, turn.0, length-reverse rows) in
+      let whole : onto g row (drop top entries) ≡ fold g (drop (length rows - (n + 1)) rows) = ap (onto g row) held.folded ∙ sym (ap (fold g) (row_next rows n row turn)) in
+      (x, refl, ap (λ st. slice_get st 0) (sym whole) ∙ read.0, record {
+        room = omega (arith, held.room, read.1);
+        kept = sym (take-take k (top - 1) after inside) ∙ ap (take k) read.4 ∙ take-take k (top - 1) entries inside ∙ held.kept;
+        folded = read.3 ∙ whole;
+      })
+  row_held n row entries after top next (Err _) enough turn held read = absurd (omega (arith, held.room, turn.0, length-reverse rows, read.0))
+
+  pub all_held : (n : ℕ) (entries : List X) (top : ℕ) → n ≡ length (reverse rows) → Held n entries top → drop top entries ≡ fold g rows
+  all_held n entries top is held =
+      let none : length rows - n ≡ 0 = omega (arith, is, length-reverse rows) in
+      held.folded ∙ ap (λ k. fold g (drop k rows)) none

@@ -1,5 +1,5 @@
 -- The operator table: each operator's word, the kinds of its operands and the kind of its result. Reader, kind check and evaluator all go by it.
-use Rattle.std.specs.Prelude.{ℕ, Bool, true, false, ◌&&◌, List, [], ◌∷◌, length, codes, Option}
+use Rattle.std.specs.Prelude.{ℕ, Bool, true, false, ◌&&◌, List, [], ◌∷◌, length, codes, Some, None, Option}
 use Rattle.std.specs.List.{slice_get}
 use Rattle.std.specs.Option.{option_map}
 use Rattle.terms.specs.declared.operator.Operator.{Operator}
@@ -86,7 +86,7 @@ word_of o = (line_of o).word
 abbrev pub signature_of : Operator → Signature
 signature_of o = (line_of o).signature
 
-abbrev sorts : Operands → List Sort
+abbrev pub sorts : Operands → List Sort
 sorts Nothing = []
 sorts (One a) = a ∷ []
 sorts (Two a b) = a ∷ b ∷ []
@@ -106,6 +106,11 @@ with_sort ss k x = option_map (λ s. (s, x)) (slice_get ss k)
 -- of the three that an operator is given, each of its own operands with its sort
 abbrev pub sorted_by : {X : Type 0} → List Sort → X → X → X → List (Option (Sort × X))
 sorted_by ss a b c = with_sort ss 0 a ∷ with_sort ss 1 b ∷ with_sort ss 2 c ∷ []
+
+-- an operand that is there passes the test of its sort
+abbrev pub passes : {X : Type 0} → (Sort → X → Bool) → Option (Sort × X) → Bool
+passes test None = true
+passes test (Some p) = test p.0 p.1
 
 -- each operand passes the test of its sort
 abbrev pub each : {X : Type 0} → (Sort → X → Bool) → List Sort → List X → Bool

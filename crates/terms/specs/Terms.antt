@@ -1,5 +1,7 @@
 -- Terms: rows in Polish notation, and the one fold that reads them.
-use Rattle.std.specs.Prelude.{◌≡◌, ℕ, ◌+◌, ◌-◌, ◌<◌, ◌≤◌, cond, ◌⊎◌, List, [], ◌∷◌, map, length, take, drop, ℤ, pos, Some, None, Option, nat_le, slice_index_or}
+use Rattle.std.specs.Prelude.{◌≡◌, ℕ, ◌+◌, ◌-◌, ◌<◌, ◌≤◌, cond, List, [], ◌∷◌, map, length, take, drop, ℤ, pos, Some, None, Option, Ok, Err, Result, nat_le, slice_index_or}
+use Rattle.std.specs.List.{slice_get}
+use Rattle.terms.specs.declared.fold.Full.{Full}
 use Rattle.terms.specs.declared.operator.Operator.{Operator}
 use Rattle.terms.specs.declared.row.Row.{Row}
 use Rattle.terms.specs.declared.row.Row.TheVariants.{Constant, Mention, Operator as Applied}
@@ -24,11 +26,17 @@ abbrev pub fold : {M X : Type 0} → Algebra M X → List (Row M) → List X
 fold g [] = []
 fold g (r ∷ rs) = onto g r (fold g rs)
 
--- a call reads one row onto the stack that stands from `top` on, and leaves what stands before the place in front of it; with no such place it does nothing
-abbrev pub FoldedRow : {M X : Type 0} → Algebra M X → Row M → List X → ℕ → Option ℕ → List X → Type 0
-FoldedRow g r before top None after = ((top ≡ 0) ⊎ (length before < top)) × (after ≡ before)
-FoldedRow g r before top (Some t) after =
-    (0 < top) × (top ≤ length before) × (top ≤ t + 1) × (t < length before) × (drop t after ≡ onto g r (drop top before)) × (take (top - 1) after ≡ take (top - 1) before)
+-- a call puts an entry on the stack that stands from `top` on, in the place of so many, and leaves what stands before the place in front of it; with no such place it does nothing
+abbrev pub Replaced : {X : Type 0} → ℕ → X → List X → ℕ → Result X Full → List X → ℕ → Type 0
+Replaced taken x before top (Err _) after next = (top ≡ 0) × (after ≡ before) × (next ≡ top)
+Replaced taken x before top (Ok y) after next =
+    (y ≡ x) × (top ≤ next + 1) × (next < length before) × (drop next after ≡ x ∷ drop taken (drop top before)) × (take (top - 1) after ≡ take (top - 1) before)
+
+-- a call reads one row onto the stack that stands from `top` on, tells the newest entry, and leaves what stands before the place in front of it; with no such place it does nothing
+abbrev pub FoldedRow : {M X : Type 0} → Algebra M X → Row M → List X → ℕ → Result X Full → List X → ℕ → Type 0
+FoldedRow g r before top (Err _) after next = (top ≡ 0) × (after ≡ before) × (next ≡ top)
+FoldedRow g r before top (Ok x) after next =
+    (slice_get (onto g r (drop top before)) 0 ≡ Some x) × (top ≤ next + 1) × (next < length before) × (drop next after ≡ onto g r (drop top before)) × (take (top - 1) after ≡ take (top - 1) before)
 
 -- a call reads rows onto a stack that stands from `top` on, at the end of its entries; with fewer entries than rows it does nothing
 abbrev pub Folded : {M X : Type 0} → Algebra M X → List (Row M) → List X → Option ℕ → List X → Type 0

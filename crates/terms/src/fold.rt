@@ -1,7 +1,8 @@
 // Folds: the rows of a term read from the last to the first onto a stack.
 
-ghost use Rattle.std.specs.Prelude.{◌≡◌, ◌+◌, ◌-◌, ◌<◌, ◌≤◌, length, take, drop, slice_index_or};
-ghost use Rattle.terms.specs.Terms.{Algebra, onto, FoldedRow, Folded, outcome_in};
+ghost use Rattle.std.specs.Prelude.{◌≡◌, ◌-◌, ◌<◌, ◌≤◌, length, take, drop, slice_index_or};
+ghost use Rattle.std.specs.List.{slice_get};
+ghost use Rattle.terms.specs.Terms.{Algebra, Replaced, FoldedRow, Folded, outcome_in};
 
 use super::operator::Operator;
 use super::row::Row;
@@ -25,118 +26,112 @@ pub trait Interpretation<M, X> {
         ensures { result ≡ (algebra self.now).absent };
 }
 
-// The entry that stands k places after `top`, the top of the stack.
-fn entry_at<X: Copy>(stack: &[X], top: usize, k: usize, absent: X) -> X
-    requires { top ≤ length stack.now }
-    ensures { result ≡ slice_index_or (drop top stack.now) k absent }
-{
-    if k < stack.len() - top {
-        let entry = stack[top + k];
-        entry
-    } else {
-        absent
-    }
-}
+// There is no room on a stack.
+#[derive(Clone, Copy, Debug, PartialEq, Eq)]
+pub struct Full;
 
-// Where the stack begins once so many entries are taken off, as far as it has them.
-fn after<X: Copy>(stack: &[X], top: usize, taken: usize) -> usize
-    requires { top ≤ length stack.now }
-    ensures from { top ≤ result }
-    ensures inside { result ≤ length stack.now }
-    ensures left { drop result stack.now ≡ drop taken (drop top stack.now) }
-{
-    if taken < stack.len() - top {
-        top + taken
-    } else {
-        stack.len()
-    }
-}
-
-// Reads one row onto the stack, which stands from `top` on, its newest entry first.
-fn push_row<M: Copy, X: Copy, I: Interpretation<M, X>>(
-    interpretation: &I,
-    row: Row<M>,
-    stack: &mut [X],
+// A stack in lent entries: it stands from `top` on, its newest entry first, and grows toward their front.
+#[derive(Drop)]
+pub struct Stack<'a, X> {
+    entries: &'a mut [X],
     top: usize,
-    absent: X,
-) -> usize
-    requires room { 0 < top }
-    requires inside { top ≤ length stack.old }
-    requires absent { absent ≡ (I.algebra interpretation.now).absent }
-    ensures low { top ≤ result + 1 }
-    ensures high { result < length stack.old }
-    ensures kept { take (top - 1) stack.new ≡ take (top - 1) stack.old }
-    ensures stack { drop result stack.new ≡ onto (I.algebra interpretation.now) row (drop top stack.old) }
-{
-    match row {
-        Row::Constant(number) => {
-            stack[top - 1] = interpretation.constant(number);
-            top - 1
-        }
-        Row::Mention(mention) => {
-            stack[top - 1] = interpretation.mention(mention);
-            top - 1
-        }
-        Row::Operator(operator) => {
-            let first = entry_at(stack, top, 0, absent);
-            let second = entry_at(stack, top, 1, absent);
-            let third = entry_at(stack, top, 2, absent);
-            let entry = interpretation.operator(operator, first, second, third);
-            let rest = after(stack, top, operator.arity());
-            stack[rest - 1] = entry;
-            rest - 1
-        }
-    }
+    ghost inside: { top ≤ length entries.now },
 }
 
-// Reads one row onto the stack that stands from `top` on, its newest entry first, and tells where it begins then; `None` if there is no room before it.
-pub fn fold_row<M: Copy, X: Copy, I: Interpretation<M, X>>(
-    interpretation: &I,
-    row: Row<M>,
-    stack: &mut [X],
-    top: usize,
-) -> Option<usize>
-    ensures { FoldedRow (I.algebra interpretation.now) row stack.old top result stack.new }
-{
-    if top == 0 || top > stack.len() {
-        return None;
+impl<'a, X: Copy> Stack<'a, X> {
+    // With no entry yet.
+    pub fn new(entries: &'a mut [X]) -> Stack<'a, X>
+        ensures same { result.entries.ghost_name ≡ entries.entry.ghost_name }
+        ensures entries { result.entries.now ≡ entries.old }
+        ensures empty { result.top ≡ length entries.old }
+    {
+        let top = entries.len();
+        Stack { entries, top }
     }
-    let absent = interpretation.absent();
-    Some(push_row(interpretation, row, stack, top, absent))
+
+    // The entry that stands so many places after the newest.
+    pub fn entry(&self, place: usize) -> Option<X>
+        ensures { result ≡ slice_get (drop self.now.top self.now.entries.now) place }
+    {
+        self.entries[self.top..].get(place).copied()
+    }
+
+    // The same, or what stands for an entry that is not there.
+    fn operand(&self, place: usize, absent: X) -> X
+        ensures { result ≡ slice_index_or (drop self.now.top self.now.entries.now) place absent }
+    {
+        self.entry(place).unwrap_or(absent)
+    }
+
+    // Puts an entry in the place of so many, or of all that there are if they are fewer.
+    fn replace(&mut self, taken: usize, entry: X) -> Result<X, Full>
+        ensures same { self.new.entries.ghost_name ≡ self.old.entries.ghost_name }
+        ensures replaced { Replaced taken entry self.old.entries.now self.old.top result self.new.entries.now self.new.top }
+    {
+        let rest = self.top.saturating_add(taken).min(self.entries.len());
+        if rest == 0 {
+            return Err(Full);
+        }
+        self.top = rest - 1;
+        self.entries[self.top] = entry;
+        Ok(entry)
+    }
+
+    // Reads one row, and tells its entry, which is the newest then.
+    pub fn read<M: Copy, I: Interpretation<M, X>>(
+        &mut self,
+        interpretation: &I,
+        row: Row<M>,
+    ) -> Result<X, Full>
+        ensures same { self.new.entries.ghost_name ≡ self.old.entries.ghost_name }
+        ensures read { FoldedRow (I.algebra interpretation.now) row self.old.entries.now self.old.top result self.new.entries.now self.new.top }
+    {
+        if self.top == 0 {
+            return Err(Full);
+        }
+        match row {
+            Row::Constant(number) => self.replace(0, interpretation.constant(number)),
+            Row::Mention(mention) => self.replace(0, interpretation.mention(mention)),
+            Row::Operator(operator) => {
+                let absent = interpretation.absent();
+                let first = self.operand(0, absent);
+                let second = self.operand(1, absent);
+                let third = self.operand(2, absent);
+                let entry = interpretation.operator(operator, first, second, third);
+                self.replace(operator.arity(), entry)
+            }
+        }
+    }
 }
 
 // Reads the rows onto a stack that stands at the end of the lent entries, its newest entry first, and tells where it begins; `None` if there are fewer entries than rows.
 pub fn fold<M: Copy, X: Copy, I: Interpretation<M, X>>(
     interpretation: &I,
     rows: &[Row<M>],
-    stack: &mut [X],
+    entries: &mut [X],
 ) -> Option<usize>
-    ensures { Folded (I.algebra interpretation.now) rows.now stack.old result stack.new }
+    ensures { Folded (I.algebra interpretation.now) rows.now entries.old result entries.new }
 {
-    if stack.len() < rows.len() {
+    if entries.len() < rows.len() {
         return None;
     }
-    let absent = interpretation.absent();
-    let mut top = stack.len();
-    for i in (0..rows.len()).rev() {
-        top = push_row(interpretation, rows[i], stack, top, absent);
+    let mut stack = Stack::new(entries);
+    for row in rows.iter().rev() {
+        stack.read(interpretation, *row).ok()?;
     }
-    Some(top)
+    Some(stack.top)
 }
 
-// What the first row of a term comes to, with the stack as `fold` leaves it; what stands for an absent operand if there are no rows, or fewer entries than rows.
+// What the first row of a term comes to, with the entries as `fold` leaves them; what stands for an absent operand if there are no rows, or fewer entries than rows.
 pub fn outcome<M: Copy, X: Copy, I: Interpretation<M, X>>(
     interpretation: &I,
     rows: &[Row<M>],
-    stack: &mut [X],
+    entries: &mut [X],
 ) -> X
-    ensures value { result ≡ outcome_in (I.algebra interpretation.now) rows.now (length stack.old) }
-    ensures others { take (length stack.old - length rows.now) stack.new ≡ take (length stack.old - length rows.now) stack.old }
-    ensures unread { length stack.old < length rows.now → stack.new ≡ stack.old }
+    ensures value { result ≡ outcome_in (I.algebra interpretation.now) rows.now (length entries.old) }
+    ensures others { take (length entries.old - length rows.now) entries.new ≡ take (length entries.old - length rows.now) entries.old }
+    ensures unread { length entries.old < length rows.now → entries.new ≡ entries.old }
 {
-    let absent = interpretation.absent();
-    match fold(interpretation, rows, stack) {
-        Some(top) => entry_at(stack, top, 0, absent),
-        None => absent,
-    }
+    let newest = fold(interpretation, rows, entries).and_then(|top| entries.get(top).copied());
+    newest.unwrap_or(interpretation.absent())
 }

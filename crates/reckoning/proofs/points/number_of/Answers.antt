@@ -10,11 +10,11 @@ returns g c =
     let found = g.N.Mentions.found c.args.mentions.now in
     let rows = c.args.rows.now in
     let room = length c.args.working.now in
-    let number : c.number_at.result ≡ point_number (evaluated points found rows room) = c.number_at.ensures ∙ ap point_number c.evaluate.ensures.mark in
+    let number : c.number.result ≡ point_number (evaluated points found rows room) = c.number.ensures ∙ ap point_number c.evaluate.ensures.mark in
     record {
       number = number;
       others = c.evaluate.ensures.others;
       unread = c.evaluate.ensures.unread;
       exact = λ enough. subst (Exact found rows) (sym number) (exact found rows room enough);
-      right = λ at env k is known told n e. its_number c.evaluate.result n _ (sym c.number_at.ensures ∙ e) (c.evaluate.ensures.covering at env k is known told);
+      right = λ at env k is known told n e. its_number c.evaluate.result n _ (sym c.number.ensures ∙ e) (c.evaluate.ensures.covering at env k is known told);
     }

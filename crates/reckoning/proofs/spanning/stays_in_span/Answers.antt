@@ -1,39 +1,42 @@
-use Rattle.std.proofs.Common.{◌-◌, ◌≤◌, false, ◌&&◌, length, sym, refl, ap, ◌∙◌, ap₂, arith}
-use Rattle.std.proofs.lemmas.List.{drop_all}
+use Rattle.std.proofs.Common.{◌≡◌, ◌+◌, ◌-◌, true, ◌&&◌, length, drop, sym, ap, ◌∙◌, ap₂, subst, rules}
+use Rattle.std.proofs.lemmas.List.{length_push}
+use Rattle.std.proofs.lemmas.Iterator.Adapters.{YieldsList-from_rev_slice}
+use Rattle.std.proofs.lemmas.Iterator.Consumers.{YieldsList-turn}
 use Rattle.std.proofs.lemmas.Bool.{le-leb}
-use Rattle.terms.specs.Terms.{fold}
+use Rattle.terms.proofs.Stacking.{Held}
 use Rattle.reckoning.specs.Evaluation.{marks_by}
 use Rattle.reckoning.specs.Ranges.{ranges}
 use Rattle.reckoning.specs.Spanning.{ranged_rows}
-use Rattle.reckoning.proofs.Spanned.{lost_part, stack_next, ranged_next, kept_next}
+use Rattle.reckoning.proofs.Spanned.{lost_part, ranged_next}
 use Rattle.reckoning.proofs.spanning.stays_in_span.Goals as goal
 
-pub loop-i-init : goal.loop-i-init
-loop-i-init g c =
-    let found = g.N.Mentions.found c.args.mentions.now in
-    let none = drop_all (length c.args.rows.now) c.args.rows.now (omega arith) in
-    (omega (arith, c.if-working-rows.false), omega arith, refl, drop_all (length c.args.working.now) c.args.working.now (omega arith) ∙ sym (ap (fold (marks_by ranges found)) none), ap (ranged_rows found) none)
-
-pub returns-then-not-is_range : goal.returns-then-not-is_range
-returns-then-not-is_range g c =
+pub returns-then-not-is_ok_and-clause-result : goal.returns-then-not-is_ok_and-clause-result
+returns-then-not-is_ok_and-clause-result g c =
     let found = g.N.Mentions.found c.args.mentions.now in
     let rows = c.args.rows.now in
-    let inside : length c.args.working.now - length rows ≤ c.loop-i.top - 1 = omega (arith, c.loop-i.invariant.0, c.loop-i-test.true) in
-    let next = ranged_next found rows c.loop-i.i c.index-rows-i.result c.loop-i.working c.fold_row.new.stack c.loop-i.top c.in-Some.next c.loop-i-test.true c.loop-i.auto.i c.index-rows-i.is c.in-Some.ensures c.fold_row.auto.stack c.loop-i.invariant.3 false _ c.if-not-is_range.ensures in
+    let turn = YieldsList-turn (YieldsList-from_rev_slice rows (search rules)) c.loop-row.yielded _ c.loop-row.yielded_by _ _ c.in-Some.row c.in-Some.is c.next.ensures.steps in
+    let step = ranged_next found rows c.new-stack.result.entries.now (length c.loop-row.yielded) c.in-Some.row.now _ _ _ _ (search rules) turn c.loop-row.invariant.held c.read.result c.is_ok_and.result c.read.ensures.read (search rules) in
+    let lost = step.0 ∙ ap (λ b. b && ranged_rows found (drop (length rows - length c.loop-row.yielded) rows)) c.if-not-is_ok_and.true in
+    sym (ap₂ ◌&&◌ (le-leb (length rows) (length c.args.working.now) c.if-working-rows.false) (lost_part found (length rows - (length c.loop-row.yielded + 1)) rows lost))
+
+pub returns-then-not-is_ok_and-clause-others : goal.returns-then-not-is_ok_and-clause-others
+returns-then-not-is_ok_and-clause-others g c =
+    let found = g.N.Mentions.found c.args.mentions.now in
+    let rows = c.args.rows.now in
+    let turn = YieldsList-turn (YieldsList-from_rev_slice rows (search rules)) c.loop-row.yielded _ c.loop-row.yielded_by _ _ c.in-Some.row c.in-Some.is c.next.ensures.steps in
+    let step = ranged_next found rows c.new-stack.result.entries.now (length c.loop-row.yielded) c.in-Some.row.now _ _ _ _ (search rules) turn c.loop-row.invariant.held c.read.result c.is_ok_and.result c.read.ensures.read (search rules) in
+    let kept = step.1.kept in
+    search rules
+
+pub loop-row-preserved : goal.loop-row-preserved
+loop-row-preserved g c =
+    let found = g.N.Mentions.found c.args.mentions.now in
+    let rows = c.args.rows.now in
+    let turn = YieldsList-turn (YieldsList-from_rev_slice rows (search rules)) c.loop-row.yielded _ c.loop-row.yielded_by _ _ c.in-Some.row c.in-Some.is c.next.ensures.steps in
+    let step = ranged_next found rows c.new-stack.result.entries.now (length c.loop-row.yielded) c.in-Some.row.now _ _ _ _ (search rules) turn c.loop-row.invariant.held c.read.result c.is_ok_and.result c.read.ensures.read (search rules) in
+    let more = sym (length_push c.loop-row.yielded c.in-Some.row) in
     record {
-      result = sym (ap₂ ◌&&◌ (le-leb (length rows) (length c.args.working.now) c.if-working-rows.false) (lost_part found (c.loop-i.i - 1) rows next));
-      others = kept_next found rows c.loop-i.i c.index-rows-i.result c.loop-i.working c.fold_row.new.stack c.loop-i.top c.in-Some.next c.loop-i-test.true c.loop-i.auto.i c.index-rows-i.is c.in-Some.ensures c.fold_row.auto.stack c.loop-i.invariant.3 (length c.args.working.now - length rows) inside ∙ c.loop-i.invariant.2;
-      unread = λ short. absurd (omega (arith, c.if-working-rows.false));
+      named = c.read.ensures.same ∙ c.loop-row.invariant.named;
+      held = subst (λ n. Held (marks_by ranges found) rows c.new-stack.result.entries.now n c.read.new.self.entries.now c.read.new.self.top) more step.1;
+      ranged = subst (λ n. ranged_rows found (drop (length rows - n) rows) ≡ true) more (step.0 ∙ ap₂ ◌&&◌ c.if-not-is_ok_and.false c.loop-row.invariant.ranged);
     }
-
-pub loop-i-preserved : goal.loop-i-preserved
-loop-i-preserved g c =
-    let found = g.N.Mentions.found c.args.mentions.now in
-    let rows = c.args.rows.now in
-    let inside : length c.args.working.now - length rows ≤ c.loop-i.top - 1 = omega (arith, c.loop-i.invariant.0, c.loop-i-test.true) in (
-      omega (arith, c.in-Some.ensures.2, c.loop-i.invariant.0, c.loop-i-test.true),
-      omega (arith, c.in-Some.ensures.3, c.fold_row.auto.stack),
-      kept_next found rows c.loop-i.i c.index-rows-i.result c.loop-i.working c.fold_row.new.stack c.loop-i.top c.in-Some.next c.loop-i-test.true c.loop-i.auto.i c.index-rows-i.is c.in-Some.ensures c.fold_row.auto.stack c.loop-i.invariant.3 (length c.args.working.now - length rows) inside ∙ c.loop-i.invariant.2,
-      stack_next found rows c.loop-i.i c.index-rows-i.result c.loop-i.working c.fold_row.new.stack c.loop-i.top c.in-Some.next c.loop-i-test.true c.loop-i.auto.i c.index-rows-i.is c.in-Some.ensures c.fold_row.auto.stack c.loop-i.invariant.3,
-      ranged_next found rows c.loop-i.i c.index-rows-i.result c.loop-i.working c.fold_row.new.stack c.loop-i.top c.in-Some.next c.loop-i-test.true c.loop-i.auto.i c.index-rows-i.is c.in-Some.ensures c.fold_row.auto.stack c.loop-i.invariant.3 _ _ c.if-not-is_range.ensures ∙ c.loop-i.invariant.4,
-    )

@@ -1,13 +1,13 @@
-use Rattle.std.proofs.Common.{◌≡◌, ◌+◌, ◌-◌, ◌≤◌, true, length, take, drop}
-use Rattle.terms.specs.Terms.{fold}
+use Rattle.std.proofs.Common.{◌≡◌, ◌-◌, true, length, drop}
+use Rattle.terms.proofs.Stacking.{Held}
 use Rattle.reckoning.specs.Evaluation.{marks_by}
 use Rattle.reckoning.specs.Ranges.{ranges}
 use Rattle.reckoning.specs.Spanning.{ranged_rows}
 use Rattle.reckoning.proofs.spanning.stays_in_span.Given as goal
 
-abbrev pub invariant-loop-i : goal.invariant-loop-i
-invariant-loop-i g l =
-    (l.i + (length l.initial.working - length l.rows) ≤ l.top) × (l.top ≤ length l.working)
-    × (take (length l.initial.working - length l.rows) l.working ≡ take (length l.initial.working - length l.rows) l.initial.working)
-    × (drop l.top l.working ≡ fold (marks_by ranges (g.N.Mentions.found l.mentions)) (drop l.i l.rows))
-    × (ranged_rows (g.N.Mentions.found l.mentions) (drop l.i l.rows) ≡ true)
+abbrev pub invariant-loop-row : goal.invariant-loop-row
+invariant-loop-row g l = record {
+  named : l.stack.entries.ghost_name ≡ l.initial.stack.entries.ghost_name;
+  held : Held (marks_by ranges (g.N.Mentions.found l.mentions)) l.rows l.initial.stack.entries.now (length l.yielded) l.stack.entries.now l.stack.top;
+  ranged : ranged_rows (g.N.Mentions.found l.mentions) (drop (length l.rows - length l.yielded) l.rows) ≡ true;
+}

@@ -1,32 +1,25 @@
-use Rattle.std.proofs.Common.{◌≡◌, ◌-◌, ◌≤◌, length, take, drop, sym, refl, ap, ◌∙◌, arith}
-use Rattle.std.proofs.lemmas.List.{drop_all, take-take}
-use Rattle.terms.specs.Terms.{fold, onto}
-use Rattle.terms.proofs.Stacking.{row_next}
+use Rattle.std.proofs.Common.{length, sym, ◌∙◌, subst, rules}
+use Rattle.std.proofs.lemmas.List.{length_push}
+use Rattle.std.proofs.lemmas.Iterator.Adapters.{YieldsList-from_rev_slice}
+use Rattle.std.proofs.lemmas.Iterator.Consumers.{YieldsList-turn, YieldsList-end}
+use Rattle.terms.proofs.Stacking.{Held, row_held, all_held}
 use Rattle.terms.proofs.fold.fold.Goals as goal
 
-pub push_row-top-requires : goal.push_row-top-requires
-push_row-top-requires g c = record { room = omega (arith, c.loop-i.invariant.0, c.loop-i-test.true); inside = c.loop-i.invariant.1; absent = c.absent-absent.ensures }
-
-pub loop-i-init : goal.loop-i-init
-loop-i-init g c =
+pub loop-row-preserved : goal.loop-row-preserved
+loop-row-preserved g c =
     let a = g.I.Interpretation.algebra c.args.interpretation.now in
-    (omega (arith, c.if-stack-rows.false), omega arith, refl, drop_all (length c.args.stack.now) c.args.stack.now (omega arith) ∙ sym (ap (fold a) (drop_all (length c.args.rows.now) c.args.rows.now (omega arith))))
-
-pub loop-i-preserved : goal.loop-i-preserved
-loop-i-preserved g c =
-    let a = g.I.Interpretation.algebra c.args.interpretation.now in
-    let n = length c.args.stack.now - length c.args.rows.now in
-    let top = c.loop-i.top in
-    let row = c.index-rows-i.result in
-    let inside : n ≤ top - 1 = omega (arith, c.loop-i.invariant.0, c.loop-i-test.true) in (
-      omega (arith, c.push_row-top.ensures.low, c.loop-i.invariant.0, c.loop-i-test.true),
-      omega (arith, c.push_row-top.ensures.high, c.push_row-top.auto.stack),
-      sym (take-take n (top - 1) c.push_row-top.new.stack inside) ∙ ap (take n) c.push_row-top.ensures.kept ∙ take-take n (top - 1) c.loop-i.stack inside ∙ c.loop-i.invariant.2,
-      c.push_row-top.ensures.stack ∙ ap (onto a row) c.loop-i.invariant.3 ∙ sym (ap (fold a) (row_next c.args.rows.now c.loop-i.i row c.loop-i-test.true c.loop-i.auto.i c.index-rows-i.is)),
-    )
+    let rows = c.args.rows.now in
+    let turn = YieldsList-turn (YieldsList-from_rev_slice rows (search rules)) c.loop-row.yielded _ c.loop-row.yielded_by _ _ c.in-Some.row c.in-Some.is c.next.ensures.steps in
+    let read = row_held a rows c.new-stack.result.entries.now _ _ _ _ _ _ _ (search rules) turn c.loop-row.invariant.held c.read.ensures.read in
+    record {
+      named = c.read.ensures.same ∙ c.loop-row.invariant.named;
+      held = subst (λ n. Held a rows c.new-stack.result.entries.now n c.read.new.self.entries.now c.read.new.self.top) (sym (length_push c.loop-row.yielded c.in-Some.row)) read.3;
+    }
 
 pub returns : goal.returns
 returns g c =
     let a = g.I.Interpretation.algebra c.args.interpretation.now in
-    let none : c.loop-i.i ≡ 0 = omega (arith, c.loop-i-test.false) in
-    (c.if-stack-rows.false, c.loop-i.invariant.1, c.loop-i.invariant.3 ∙ ap (λ i. fold a (drop i c.args.rows.now)) none, c.loop-i.invariant.2)
+    let rows = c.args.rows.now in
+    let end = YieldsList-end (YieldsList-from_rev_slice rows (search rules)) c.loop-row.yielded _ c.loop-row.yielded_by _ _ c.in-None.is c.next.ensures.steps in
+    let folded = all_held a rows c.new-stack.result.entries.now (length c.loop-row.yielded) c.loop-row.stack.entries.now c.loop-row.stack.top end.1 c.loop-row.invariant.held in
+    (c.if-entries-rows.false, search rules, search rules, search rules)

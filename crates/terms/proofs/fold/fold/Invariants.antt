@@ -1,9 +1,9 @@
-use Rattle.std.proofs.Common.{◌≡◌, ◌+◌, ◌-◌, ◌≤◌, length, take, drop}
-use Rattle.terms.specs.Terms.{fold}
+use Rattle.std.proofs.Common.{◌≡◌, length}
+use Rattle.terms.proofs.Stacking.{Held}
 use Rattle.terms.proofs.fold.fold.Given as goal
 
-abbrev pub invariant-loop-i : goal.invariant-loop-i
-invariant-loop-i g l =
-    (l.i + (length l.initial.stack - length l.rows) ≤ l.top) × (l.top ≤ length l.stack)
-    × (take (length l.initial.stack - length l.rows) l.stack ≡ take (length l.initial.stack - length l.rows) l.initial.stack)
-    × (drop l.top l.stack ≡ fold (g.I.Interpretation.algebra l.interpretation) (drop l.i l.rows))
+abbrev pub invariant-loop-row : goal.invariant-loop-row
+invariant-loop-row g l = record {
+  named : l.stack.entries.ghost_name ≡ l.initial.stack.entries.ghost_name;
+  held : Held (g.I.Interpretation.algebra l.interpretation) l.rows l.initial.stack.entries.now (length l.yielded) l.stack.entries.now l.stack.top;
+}
