@@ -1,12 +1,13 @@
 // Kinding: the kind of a term, from the kinds of what it mentions.
 
 ghost use Rattle.std.specs.Prelude.{◌≡◌, length, if◌then◌else◌, None, nat_le};
-ghost use Rattle.reckoning.specs.Kinds.{asked, kinds_fit, kind_given, kinds, kind_of};
+ghost use Rattle.terms.specs.Operators.{passes};
+ghost use Rattle.reckoning.specs.Kinds.{asked, is_kind, kinds_fit, kind_given, kinds, kind_of};
 
 use terms::fold::{Interpretation, outcome};
 use terms::kind::{Kind, Sort};
 use terms::mentions::Mentions;
-use terms::operator::{Operands, Operator};
+use terms::operator::Operator;
 use terms::row::Row;
 
 // The kinds of rows, over those of mentions.
@@ -25,6 +26,13 @@ fn asked(sort: Sort, shared: Kind) -> Kind
     }
 }
 
+// Whether an operand is of the kind that its place asks for.
+fn is_asked(shared: Kind, operand: Option<(Sort, Option<Kind>)>) -> bool
+    ensures { result ≡ passes (λ s k. is_kind k (asked shared s)) operand }
+{
+    operand.is_none_or(|(sort, found)| found == Some(asked(sort, shared)))
+}
+
 // Whether the operands are of the operator's kinds, where those that share a kind share this one.
 fn kinds_fit(
     shared: Kind,
@@ -35,16 +43,10 @@ fn kinds_fit(
 ) -> bool
     ensures { result ≡ kinds_fit shared operator a b c }
 {
-    match operator.signature().operands {
-        Operands::None => true,
-        Operands::One(s) => a == Some(asked(s, shared)),
-        Operands::Two(s, t) => a == Some(asked(s, shared)) && b == Some(asked(t, shared)),
-        Operands::Three(s, t, u) => {
-            a == Some(asked(s, shared))
-                && b == Some(asked(t, shared))
-                && c == Some(asked(u, shared))
-        }
-    }
+    operator
+        .sorted(a, b, c)
+        .iter()
+        .all(|&operand| is_asked(shared, operand))
 }
 
 // The kind that an operator gives, `None` if its operands are not of its kinds.

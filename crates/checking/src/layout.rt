@@ -3,6 +3,7 @@
 ghost use Rattle.std.specs.Prelude.{◌≡◌, Some};
 ghost use Rattle.checking.specs.Layouts.{after_term, padded, after_statement, fills_from};
 
+use super::pieces::LIST_LIMIT;
 use jcode::statement::{Listing, Statement, Term};
 
 // The place after a term, if it stands at this place of a table with so many rows.
@@ -17,7 +18,7 @@ fn after_term(total: usize, used: usize, term: Term) -> Option<usize>
 fn is_padded(listing: Listing) -> bool
     ensures { result ≡ padded listing }
 {
-    listing.count <= 8
+    listing.count <= LIST_LIMIT
         && listing
             .variables
             .iter()

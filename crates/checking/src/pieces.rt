@@ -15,6 +15,17 @@ use terms::number::spans;
 use terms::row::Row;
 use terms::word::same_word;
 
+// How long a name and a text may be.
+const NAME_LIMIT: usize = 32;
+
+const TEXT_LIMIT: usize = 80;
+
+// The greatest label.
+const LABEL_LIMIT: u16 = 9_999;
+
+// How many variables NEW may list.
+pub(super) const LIST_LIMIT: usize = 8;
+
 // Whether the span lies within the bytes.
 fn fits(bytes: &[u8], span: Span) -> bool
     ensures { result ≡ fits_in bytes.now span }
@@ -27,19 +38,19 @@ fn fits(bytes: &[u8], span: Span) -> bool
 pub(super) fn is_name(bytes: &[u8], span: Span) -> bool
     ensures { result ≡ is_name bytes.now span }
 {
-    fits(bytes, span) && span.length <= 32 && is_word(span.of(bytes))
+    fits(bytes, span) && span.length <= NAME_LIMIT && is_word(span.of(bytes))
 }
 
 pub(super) fn is_text(bytes: &[u8], span: Span) -> bool
     ensures { result ≡ is_text bytes.now span }
 {
-    fits(bytes, span) && span.length <= 80 && piece::is_text(span.of(bytes))
+    fits(bytes, span) && span.length <= TEXT_LIMIT && piece::is_text(span.of(bytes))
 }
 
 pub(super) fn is_label(label: u16) -> bool
     ensures { result ≡ is_label label }
 {
-    (1..=9_999).contains(&label)
+    (1..=LABEL_LIMIT).contains(&label)
 }
 
 fn is_domain(domain: Domain) -> bool
@@ -113,5 +124,5 @@ fn are_distinct(numbers: &[usize]) -> bool
 pub(super) fn is_list(count: usize, listed: &[usize]) -> bool
     ensures { result ≡ is_list count listed.now }
 {
-    listed.len() <= 8 && are_below(count, listed) && are_distinct(listed)
+    listed.len() <= LIST_LIMIT && are_below(count, listed) && are_distinct(listed)
 }

@@ -5,11 +5,11 @@ ghost use Rattle.jcode.specs.declared.statement.Statement.{Statement};
 
 use jcode::statement::Statement;
 
-// The most rows that a unit may have.
-pub(super) const MOST_ROWS: usize = 2_000;
+// How many rows a unit may have.
+pub(super) const ROW_LIMIT: usize = 2_000;
 
 // An entry for each row of a term.
-pub(super) type Room<X> = [X; MOST_ROWS];
+pub(super) type Room<X> = [X; ROW_LIMIT];
 
 // The lowest statement that fails a test, for which its terms are worked out in a room.
 pub(super) fn lowest_failing<X: Copy, F: Fn(Statement, &mut Room<X>) -> bool>(
@@ -20,7 +20,7 @@ pub(super) fn lowest_failing<X: Copy, F: Fn(Statement, &mut Room<X>) -> bool>(
     requires { F.IsAlwaysCallable passes }
     ensures { (p : Statement → Bool) → ((s : _) (r : _) (b : _) (t : _) → F.post passes s r b t → b ≡ p s) → result ≡ position (λ s. not (p s)) statements.now }
 {
-    let mut room = [blank; MOST_ROWS];
+    let mut room = [blank; ROW_LIMIT];
     for (place, statement) in statements.iter().enumerate() {
         if !passes(*statement, &mut room) {
             return Some(place);

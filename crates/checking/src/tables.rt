@@ -1,19 +1,24 @@
 // Tables that keep the rules of reading.
 
 ghost use Rattle.std.specs.Prelude.{◌≡◌, ◌≤◌, length};
-ghost use Rattle.checking.specs.declared.room.TheConstants.{MOST_ROWS};
+ghost use Rattle.checking.specs.declared.room.TheConstants.{ROW_LIMIT};
 ghost use Rattle.checking.specs.Held.{held};
 ghost use Rattle.checking.specs.Readable.{few_enough, well_named, well_laid, readable};
 
 use super::layout::fills;
 use super::pieces::{are_declarations, have_own_names, is_name};
-use super::room::{MOST_ROWS, lowest_failing};
+use super::room::{ROW_LIMIT, lowest_failing};
 use super::term_table::TermTable;
 use super::types::Types;
 use jcode::mention::UnitRow;
 use jcode::span::Span;
 use jcode::statement::Statement;
 use jcode::variable::Variable;
+
+// How many variables and statements a unit may have.
+const VARIABLE_LIMIT: usize = 32;
+
+const STATEMENT_LIMIT: usize = 200;
 
 // The tables of a unit, with its name and the bytes that both speak of.
 #[derive(Clone, Copy)]
@@ -29,7 +34,9 @@ impl UnitTables<'_> {
     fn are_few(&self) -> bool
         ensures { result ≡ few_enough (held self.now) }
     {
-        self.variables.len() <= 32 && self.statements.len() <= 200 && self.rows.len() <= MOST_ROWS
+        self.variables.len() <= VARIABLE_LIMIT
+            && self.statements.len() <= STATEMENT_LIMIT
+            && self.rows.len() <= ROW_LIMIT
     }
 
     fn are_well_named(&self) -> bool
@@ -41,7 +48,7 @@ impl UnitTables<'_> {
     }
 
     fn are_well_laid(&self) -> bool
-        requires { length self.now.rows.now ≤ MOST_ROWS }
+        requires { length self.now.rows.now ≤ ROW_LIMIT }
         ensures { result ≡ well_laid self.now.bytes.now (held self.now) }
     {
         let terms = self.terms();
@@ -59,16 +66,8 @@ impl UnitTables<'_> {
         self.are_few() && self.are_well_named() && self.are_well_laid()
     }
 
-    pub(super) fn types(&self) -> Types<'_>
-        ensures { result.variables.now ≡ self.now.variables.now }
-    {
-        Types {
-            variables: self.variables,
-        }
-    }
-
     pub(super) fn terms(&self) -> TermTable<'_>
-        requires { length self.now.rows.now ≤ MOST_ROWS }
+        requires { length self.now.rows.now ≤ ROW_LIMIT }
         ensures types { result.types.variables.now ≡ self.now.variables.now }
         ensures rows { result.rows.now ≡ self.now.rows.now }
     {

@@ -4,7 +4,7 @@ ghost use Rattle.std.specs.Prelude.{◌≡◌, ◌≤◌, length};
 ghost use Rattle.jcode.specs.ReadStatements.{nesting};
 ghost use Rattle.jcode.specs.Units.{term_in};
 ghost use Rattle.reckoning.specs.Kinds.{kind_of};
-ghost use Rattle.checking.specs.declared.room.TheConstants.{MOST_ROWS};
+ghost use Rattle.checking.specs.declared.room.TheConstants.{ROW_LIMIT};
 ghost use Rattle.checking.specs.Nesting.{writes_term};
 ghost use Rattle.checking.specs.Rules.{stays_in};
 ghost use Rattle.checking.specs.Types.{domains_in, mention_kind};
@@ -25,11 +25,11 @@ use terms::kind::Kind;
 pub(super) struct TermTable<'a> {
     pub(super) types: Types<'a>,
     pub(super) rows: &'a [UnitRow],
-    ghost few: { length rows.now ≤ MOST_ROWS },
+    ghost few: { length rows.now ≤ ROW_LIMIT },
 }
 
-// The deepest that a unit's term may nest.
-const NESTING: usize = 32;
+// How deep a unit's term may nest.
+const NESTING_LIMIT: usize = 32;
 
 impl TermTable<'_> {
     pub(super) fn kind(&self, term: Term, room: &mut Room<Option<Kind>>) -> Option<Kind>
@@ -48,6 +48,6 @@ impl TermTable<'_> {
     pub(super) fn is_complete(&self, term: Term, room: &mut Room<Option<usize>>) -> bool
         ensures { result ≡ writes_term nesting (term_in self.now.rows.now term) }
     {
-        writes_term(NESTING, term_rows(self.rows, term), room)
+        writes_term(NESTING_LIMIT, term_rows(self.rows, term), room)
     }
 }

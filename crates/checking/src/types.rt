@@ -7,7 +7,6 @@ ghost use Rattle.checking.specs.Types.{domain_kind, domain_bounds, domains_in, m
 use jcode::mention::{Aspect, Mention};
 use jcode::variable::{Domain, Variable};
 use reckoning::mark::Mark;
-use reckoning::mentions::Mentions as Marks;
 use terms::kind::Kind;
 use terms::mentions::Mentions;
 
@@ -67,7 +66,7 @@ impl<'a> Mentions<Mention, Kind> for Types<'a> {
     }
 }
 
-impl<'a> Marks<Mention> for Types<'a> {
+impl<'a> Mentions<Mention, Mark> for Types<'a> {
     ghost found = { λ s. mention_bounds (domains_in s.variables.now) };
 
     fn find(&self, mention: Mention) -> Option<Mark> {
