@@ -14,7 +14,7 @@ use Rattle.jcode.specs.Units.{term_in, sentence_in}
 use Rattle.checking.specs.Layouts.{after_term, after_both, padded, after_statement, fills_from}
 use Rattle.checking.specs.Pieces.{is_list}
 use Rattle.checking.specs.Sentences.{keeps}
-use Rattle.checking.specs.Tests.{all_of}
+use Rattle.std.specs.List.{list_all}
 
 -- a `Some` that a test gave
 passed : {X : Type 0} (b : Bool) (x y : X) → cond b (Some x) None ≡ Some y → (b ≡ true) × (x ≡ y)
@@ -25,9 +25,9 @@ given : {X : Type 0} (b : Bool) (o : Option X) (y : X) → cond b o None ≡ Som
 given true o y e = (refl, e)
 given false o y e = absurd (let z : ◌≡◌ {A = ℕ} 0 1 = cc in omega arith)
 
-zeros : (xs : List ℕ) → all_of (λ v. eqb v 0) xs ≡ true → xs ≡ replicate (length xs) 0
+zeros : (xs : List ℕ) → list_all (λ v. eqb v 0) xs ≡ true → xs ≡ replicate (length xs) 0
 zeros [] e = refl
-zeros (x ∷ xs) e = let h = and_parts (eqb x 0) (all_of (λ v. eqb v 0) xs) e in ap₂ ◌∷◌ (eqb-true x 0 h.0) (zeros xs h.1)
+zeros (x ∷ xs) e = let h = and_parts (eqb x 0) (list_all (λ v. eqb v 0) xs) e in ap₂ ◌∷◌ (eqb-true x 0 h.0) (zeros xs h.1)
 
 -- a padded list is what its listed numbers make
 listed_again : (l : Listing) → padded l ≡ true → listing_of (listed_in l) ≡ l
@@ -42,7 +42,7 @@ listed_again l e =
     ap (λ n. take l.count l.variables ++ replicate n 0) (sym rest) ∙ ap (λ xs. take l.count l.variables ++ xs) (sym (zeros (drop l.count l.variables) k.1)) ∙ take-append-drop l.count l.variables in
     ap₂ (λ vs n. record { variables = vs; count = n }) whole long
 
-all_zero : (n : ℕ) → all_of (λ v. eqb v 0) (replicate n 0) ≡ true
+all_zero : (n : ℕ) → list_all (λ v. eqb v 0) (replicate n 0) ≡ true
 all_zero zero = refl
 all_zero (suc n) = all_zero n
 
@@ -52,7 +52,7 @@ again_listed l is few =
     let vs : l.variables ≡ listed_in l ++ replicate (8 - length (listed_in l)) 0 = ap (λ k. k.variables) is in
     let eight : length l.variables ≡ 8 = ap length vs ∙ simp (length-append, length-replicate) (omega arith) in
     let rest : drop l.count l.variables ≡ replicate (8 - length (listed_in l)) 0 = ap (drop l.count) vs ∙ drop_at (listed_in l) (replicate (8 - length (listed_in l)) 0) l.count (sym n) in
-    and_from (leb l.count 8) _ (le-leb l.count 8 (omega arith)) (and_from (eqb (length l.variables) 8) _ (eq-eqb (length l.variables) 8 eight) (ap (all_of (λ v. eqb v 0)) rest ∙ all_zero (8 - length (listed_in l))))
+    and_from (leb l.count 8) _ (le-leb l.count 8 (omega arith)) (and_from (eqb (length l.variables) 8) _ (eq-eqb (length l.variables) 8 eight) (ap (list_all (λ v. eqb v 0)) rest ∙ all_zero (8 - length (listed_in l))))
 
 module _ (rows : List UnitRow) where
   -- where a term stands at a place, what is left of the table begins with its rows
@@ -169,12 +169,12 @@ module _ (rows : List UnitRow) where
   again_statement used (stands.Branch t l) le bytes count ok is = none_again used le
   again_statement used (stands.Join l) le bytes count ok is = none_again used le
 
-  pub again_all : (bytes : List ℕ) (count used : ℕ) (ss : List Statement) → used ≤ length rows → all_of (keeps bytes count) (map (sentence_in rows) ss) ≡ true → LaidAll used ss → fills_from (length rows) (Some used) ss ≡ true
+  pub again_all : (bytes : List ℕ) (count used : ℕ) (ss : List Statement) → used ≤ length rows → list_all (keeps bytes count) (map (sentence_in rows) ss) ≡ true → LaidAll used ss → fills_from (length rows) (Some used) ss ≡ true
   again_all bytes count used [] le ok laid_out =
       let none : length rows - used ≡ 0 = sym (length-drop used rows) ∙ ap length laid_out.1 in
       eq-eqb used (length rows) (omega arith)
   again_all bytes count used (s ∷ ss) le ok laid_out =
-      let k = and_parts (keeps bytes count (sentence_in rows s)) (all_of (keeps bytes count) (map (sentence_in rows) ss)) ok in
+      let k = and_parts (keeps bytes count (sentence_in rows s)) (list_all (keeps bytes count) (map (sentence_in rows) ss)) ok in
       let whole = laid_out.0 in
       let own = rows_of (sentence_in rows s) in
       let p = again_statement used s le bytes count k.0 (cc) in

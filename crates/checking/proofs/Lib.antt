@@ -1,7 +1,4 @@
-pub mod Typing
-pub mod Rooms
 pub mod Searching
-pub mod Testing
 pub mod Laying
 pub mod Reading
 pub mod Flowing

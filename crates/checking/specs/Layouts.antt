@@ -4,7 +4,7 @@ use Rattle.jcode.specs.declared.statement.Listing.{Listing}
 use Rattle.jcode.specs.declared.statement.Statement.{Statement}
 use Rattle.jcode.specs.declared.statement.Statement.TheVariants as stands
 use Rattle.jcode.specs.declared.statement.Term.{Term}
-use Rattle.checking.specs.Tests.{all_of}
+use Rattle.std.specs.List.{list_all}
 
 -- the place after a term that stands at a place of a table with so many rows
 abbrev pub after_term : ℕ → ℕ → Term → Option ℕ
@@ -16,7 +16,7 @@ after_both total (Some next) f = after_term total next f
 
 -- of 8 numbers, those past the count are 0
 abbrev pub padded : Listing → Bool
-padded l = nat_le l.count 8 && (length l.variables == 8 && all_of (λ v. nat_eq v 0) (drop l.count l.variables))
+padded l = nat_le l.count 8 && (length l.variables == 8 && list_all (λ v. nat_eq v 0) (drop l.count l.variables))
 
 abbrev pub after_statement : ℕ → ℕ → Statement → Option ℕ
 after_statement total used stands.Hang = Some used

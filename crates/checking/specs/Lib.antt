@@ -9,3 +9,4 @@ pub mod Readable
 pub mod Faults
 pub mod Breaks
 pub mod Steps
+pub mod Held

@@ -14,7 +14,8 @@ use Rattle.jcode.specs.ReadStatements.{nesting}
 use Rattle.jcode.specs.ReadTerms.{UnitRow}
 use Rattle.jcode.specs.Scopes.{member, name_in}
 use Rattle.checking.specs.Nesting.{writes_term}
-use Rattle.checking.specs.Tests.{all_of, apart}
+use Rattle.std.specs.List.{list_all}
+use Rattle.checking.specs.Tests.{apart}
 
 -- a span lies within the bytes
 abbrev pub fits : List ℕ → Span → Bool
@@ -56,8 +57,8 @@ row_known count listed (Applied o) = true
 
 -- rows that write one term, where NEW lists these variables
 abbrev pub is_term : ℕ → List ℕ → List UnitRow → Bool
-is_term count listed e = writes_term nesting e && all_of (row_known count listed) e
+is_term count listed e = writes_term nesting e && list_all (row_known count listed) e
 
 -- at most 8 variables, none twice
 abbrev pub is_list : ℕ → List ℕ → Bool
-is_list count vs = nat_le (length vs) 8 && (all_of (λ v. ltb v count) vs && apart nat_eq vs)
+is_list count vs = nat_le (length vs) 8 && (list_all (λ v. ltb v count) vs && apart nat_eq vs)

@@ -8,7 +8,8 @@ use Rattle.jcode.specs.Units.{sentence_in}
 use Rattle.checking.specs.Layouts.{fills_from}
 use Rattle.checking.specs.Pieces.{is_name, is_declaration, same_name}
 use Rattle.checking.specs.Sentences.{keeps}
-use Rattle.checking.specs.Tests.{all_of, apart}
+use Rattle.std.specs.List.{list_all}
+use Rattle.checking.specs.Tests.{apart}
 
 -- the statements that the tables hold
 abbrev pub sentences_in : Tables → List (Sentence Span)
@@ -25,19 +26,19 @@ pub record Readable (bytes : List ℕ) (name : Span) (t : Tables) : Type 0 where
   pub few_rows : length t.rows ≤ row_limit
   -- names, types and statements keep their rules, and no name is declared twice
   pub named : is_name bytes name ≡ true
-  pub declared : all_of (is_declaration bytes) t.variables ≡ true
+  pub declared : list_all (is_declaration bytes) t.variables ≡ true
   pub once : apart (same_name bytes) t.variables ≡ true
-  pub kept : all_of (keeps bytes (length t.variables)) (sentences_in t) ≡ true
+  pub kept : list_all (keeps bytes (length t.variables)) (sentences_in t) ≡ true
 
 -- the same, decided
 abbrev pub few_enough : Tables → Bool
 few_enough t = nat_le (length t.variables) variable_limit && (nat_le (length t.statements) statement_limit && nat_le (length t.rows) row_limit)
 
 abbrev pub well_named : List ℕ → Span → Tables → Bool
-well_named bytes name t = is_name bytes name && (all_of (is_declaration bytes) t.variables && apart (same_name bytes) t.variables)
+well_named bytes name t = is_name bytes name && (list_all (is_declaration bytes) t.variables && apart (same_name bytes) t.variables)
 
 abbrev pub well_laid : List ℕ → Tables → Bool
-well_laid bytes t = fills_from (length t.rows) (Some 0) t.statements && all_of (keeps bytes (length t.variables)) (sentences_in t)
+well_laid bytes t = fills_from (length t.rows) (Some 0) t.statements && list_all (keeps bytes (length t.variables)) (sentences_in t)
 
 abbrev pub readable : List ℕ → Span → Tables → Bool
 readable bytes name t = few_enough t && (well_named bytes name t && well_laid bytes t)

@@ -31,18 +31,16 @@ domains u = map (λ d. d.domain) u.variables
 abbrev pub domains_in : List Variable → List Domain
 domains_in vs = map (λ v. v.domain) vs
 
--- a shadow is a truth
-abbrev pub aspect_kind : Aspect → Option Domain → Option Kind
-aspect_kind Value d = option_map domain_kind d
-aspect_kind Shadow d = Some Truth
+-- of what a term mentions, where variables have these types: a shadow is a truth
+abbrev pub aspect_domain : Aspect → Option Domain → Option Domain
+aspect_domain Value d = d
+aspect_domain Shadow d = Some Boolean
 
-abbrev pub aspect_bounds : Aspect → Option Domain → Option Mark
-aspect_bounds Value d = option_map domain_bounds d
-aspect_bounds Shadow d = Some (domain_bounds Boolean)
+abbrev pub mention_domain : List Domain → Mention → Option Domain
+mention_domain ds m = aspect_domain m.aspect (slice_get ds m.variable)
 
--- of what a term mentions, where variables have these types
 abbrev pub mention_kind : List Domain → Mention → Option Kind
-mention_kind ds m = aspect_kind m.aspect (slice_get ds m.variable)
+mention_kind ds m = option_map domain_kind (mention_domain ds m)
 
 abbrev pub mention_bounds : List Domain → Mention → Option Mark
-mention_bounds ds m = aspect_bounds m.aspect (slice_get ds m.variable)
+mention_bounds ds m = option_map domain_bounds (mention_domain ds m)

@@ -1,10 +1,11 @@
 // Faults of checking: what stops a unit on its way to being checked.
 
-ghost use Rattle.std.specs.Prelude.{◌≡◌};
+ghost use Rattle.std.specs.Prelude.{◌≡◌, Some};
 ghost use Rattle.checking.specs.declared.fault.CheckFault.TheVariants.{Reading};
-ghost use Rattle.checking.specs.Faults.{refusal_of, place_of};
+ghost use Rattle.checking.specs.Faults.{refusal_of, place_of, refused};
 
 use jcode::refusal::{ReadFault, Refusal};
+use std::fmt;
 
 #[derive(Clone, Copy)]
 pub enum CheckFault {
@@ -40,5 +41,13 @@ impl CheckFault {
             CheckFault::Reading(fault) => fault.place,
             CheckFault::Rule { place, .. } => place,
         }
+    }
+}
+
+impl fmt::Display for CheckFault {
+    ghost output = { λ fault. Some (refused fault) };
+
+    fn fmt<W: fmt::Write>(&self, f: &mut fmt::Formatter<W>) -> fmt::Result {
+        write!(f, "refused {} {}", self.refusal().number(), self.place())
     }
 }

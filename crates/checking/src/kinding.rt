@@ -1,41 +1,36 @@
 // Kinding: the kind of a term, from the kinds of what it mentions.
 
-ghost use Rattle.std.specs.Prelude.{◌≡◌, length, if◌then◌else◌, None, Option, nat_le};
-ghost use Rattle.terms.specs.declared.kind.Kind.{Kind};
+ghost use Rattle.std.specs.Prelude.{◌≡◌, length, if◌then◌else◌, None, nat_le};
+ghost use Rattle.terms.specs.Operators.{passes};
 ghost use Rattle.reckoning.specs.Kinds.{asked, is_kind, kinds_fit, kind_given, kinds, kind_of};
 
 use terms::fold::{Interpretation, outcome};
 use terms::kind::{Kind, Sort};
-use terms::operator::{Operands, Operator};
+use terms::mentions::Mentions;
+use terms::operator::Operator;
 use terms::row::Row;
 
-// Where the kinds of what a term mentions are found.
-pub trait Kinds<M> {
-    ghost kind_at: { Self → M → Option Kind };
-
-    // `None` for an unknown mention.
-    fn kind(&self, mention: M) -> Option<Kind>
-        ensures { result ≡ kind_at self.now mention };
-}
-
-pub(super) fn is_kind(found: Option<Kind>, wanted: Kind) -> bool
-    ensures { result ≡ is_kind found wanted }
-{
-    match (found, wanted) {
-        (Some(Kind::Number), Kind::Number) => true,
-        (Some(Kind::Truth), Kind::Truth) => true,
-        _ => false,
-    }
+// The kinds of rows, over those of mentions.
+#[derive(Clone, Copy)]
+struct Kinding<'a, K> {
+    mentions: &'a K,
 }
 
 // The kind that a place of an operator asks for, where places that share a kind share this one.
-fn asks(sort: Sort, shared: Kind) -> Kind
+fn asked(sort: Sort, shared: Kind) -> Kind
     ensures { result ≡ asked shared sort }
 {
     match sort {
         Sort::Of(kind) => kind,
         Sort::Same => shared,
     }
+}
+
+// Whether an operand is of the kind that its place asks for.
+fn is_asked(shared: Kind, operand: Option<(Sort, Option<Kind>)>) -> bool
+    ensures { result ≡ passes (λ s k. is_kind k (asked shared s)) operand }
+{
+    operand.is_none_or(|(sort, found)| found == Some(asked(sort, shared)))
 }
 
 // Whether the operands are of the operator's kinds, where those that share a kind share this one.
@@ -48,47 +43,31 @@ fn kinds_fit(
 ) -> bool
     ensures { result ≡ kinds_fit shared operator a b c }
 {
-    match operator.signature().operands {
-        Operands::None => true,
-        Operands::One(s) => is_kind(a, asks(s, shared)),
-        Operands::Two(s, t) => is_kind(a, asks(s, shared)) && is_kind(b, asks(t, shared)),
-        Operands::Three(s, t, u) => {
-            is_kind(a, asks(s, shared))
-                && is_kind(b, asks(t, shared))
-                && is_kind(c, asks(u, shared))
-        }
-    }
+    operator
+        .sorted(a, b, c)
+        .iter()
+        .all(|&operand| is_asked(shared, operand))
 }
 
 // The kind that an operator gives, `None` if its operands are not of its kinds.
 fn given_kind(operator: Operator, a: Option<Kind>, b: Option<Kind>, c: Option<Kind>) -> Option<Kind>
     ensures { result ≡ kind_given operator a b c }
 {
-    let result = operator.signature().result;
-    if kinds_fit(Kind::Number, operator, a, b, c) {
-        Some(asks(result, Kind::Number))
-    } else if kinds_fit(Kind::Truth, operator, a, b, c) {
-        Some(asks(result, Kind::Truth))
-    } else {
-        None
-    }
+    [Kind::Number, Kind::Truth]
+        .iter()
+        .find(|&&shared| kinds_fit(shared, operator, a, b, c))
+        .map(|&shared| asked(operator.signature().result, shared))
 }
 
-// The kinds of rows, over those of mentions.
-#[derive(Clone, Copy)]
-struct Kinding<'a, K> {
-    mentions: &'a K,
-}
-
-impl<'a, M: Copy, K: Kinds<M>> Interpretation<M, Option<Kind>> for Kinding<'a, K> {
-    ghost algebra = { λ s. kinds (K.Kinds.kind_at s.mentions.now) };
+impl<'a, M: Copy, K: Mentions<M, Kind>> Interpretation<M, Option<Kind>> for Kinding<'a, K> {
+    ghost algebra = { λ s. kinds (K.Mentions.found s.mentions.now) };
 
     fn constant(&self, _number: i64) -> Option<Kind> {
         Some(Kind::Number)
     }
 
     fn mention(&self, mention: M) -> Option<Kind> {
-        self.mentions.kind(mention)
+        self.mentions.find(mention)
     }
 
     fn operator(
@@ -107,12 +86,12 @@ impl<'a, M: Copy, K: Kinds<M>> Interpretation<M, Option<Kind>> for Kinding<'a, K
 }
 
 // The kind of a term, `None` if an operator stands before operands of other kinds, or if there are fewer lent entries than rows.
-pub fn kind_of<M: Copy, K: Kinds<M>>(
+pub fn kind_of<M: Copy, K: Mentions<M, Kind>>(
     mentions: &K,
     rows: &[Row<M>],
     stack: &mut [Option<Kind>],
 ) -> Option<Kind>
-    ensures { result ≡ (if nat_le (length rows.now) (length stack.old) then kind_of (K.kind_at mentions.now) rows.now else None) }
+    ensures { result ≡ (if nat_le (length rows.now) (length stack.old) then kind_of (K.found mentions.now) rows.now else None) }
 {
     outcome(&Kinding { mentions }, rows, stack)
 }

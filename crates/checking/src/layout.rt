@@ -1,39 +1,29 @@
 // The layout of the row table: the terms of all statements stand one after another, and fill it.
 
-ghost use Rattle.std.specs.Prelude.{◌≡◌, length, Some, ◌==◌};
+ghost use Rattle.std.specs.Prelude.{◌≡◌, Some};
 ghost use Rattle.checking.specs.Layouts.{after_term, padded, after_statement, fills_from};
 
-use super::test::{Test, all_pass};
+use super::pieces::LIST_LIMIT;
 use jcode::statement::{Listing, Statement, Term};
 
 // The place after a term, if it stands at this place of a table with so many rows.
 fn after_term(total: usize, used: usize, term: Term) -> Option<usize>
     ensures { result ≡ after_term total used term }
 {
-    let next = term.rows.checked_add(used)?;
-    if term.first == used && next <= total {
-        Some(next)
-    } else {
-        None
-    }
-}
-
-#[derive(Clone, Copy)]
-struct Zero;
-
-impl Test<usize> for Zero {
-    ghost passes = { λ s v. (v == 0) };
-
-    fn test(&self, x: usize) -> bool {
-        x == 0
-    }
+    used.checked_add(term.rows)
+        .filter(|&next| term.first == used && next <= total)
 }
 
 // Whether only zeros stand past the count.
 fn is_padded(listing: Listing) -> bool
     ensures { result ≡ padded listing }
 {
-    listing.count <= 8 && all_pass(&Zero, &listing.variables[listing.count..])
+    listing.count <= LIST_LIMIT
+        && listing
+            .variables
+            .iter()
+            .skip(listing.count)
+            .all(|&v| v == 0)
 }
 
 // The place after a statement's terms, if they stand at this place.
@@ -48,17 +38,10 @@ fn after_statement(total: usize, used: usize, statement: Statement) -> Option<us
             listing,
             condition,
             ..
-        } => {
-            if is_padded(listing) {
-                after_term(total, used, condition)
-            } else {
-                None
-            }
+        } => after_term(total, used, condition).filter(|_| is_padded(listing)),
+        Statement::Assign { shadow, value, .. } => {
+            after_term(total, after_term(total, used, shadow)?, value)
         }
-        Statement::Assign { shadow, value, .. } => match after_term(total, used, shadow) {
-            Some(next) => after_term(total, next, value),
-            None => None,
-        },
         _ => Some(used),
     }
 }
@@ -68,11 +51,11 @@ pub(super) fn fills(total: usize, statements: &[Statement]) -> bool
     ensures { result ≡ fills_from total (Some 0) statements.now }
 {
     let mut used = 0;
-    for i in 0..statements.len() {
-        match after_statement(total, used, statements[i]) {
-            Some(next) => used = next,
-            None => return false,
-        }
+    for statement in statements {
+        let Some(next) = after_statement(total, used, *statement) else {
+            return false;
+        };
+        used = next;
     }
     used == total
 }

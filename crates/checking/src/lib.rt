@@ -1,17 +1,19 @@
 // Checking: the rules that a unit keeps before conditions are written for it, and the checked unit.
 #![tactic(auto)]
 
+mod apart;
 pub mod fault;
 pub mod kinding;
 mod kinds;
 mod layout;
 pub mod nesting;
 mod pieces;
-mod readable;
+mod room;
 mod rules;
 mod sentences;
 mod spans;
 mod steps;
+mod tables;
 pub mod term;
-mod test;
+mod term_table;
 pub mod types;

@@ -8,7 +8,7 @@ use terms::operator::{Operands, Operator};
 use terms::row::Row;
 
 // How deep a term nests, up to a limit.
-#[derive(Clone, Copy)]
+#[derive(Clone, Copy, Debug, PartialEq, Eq)]
 pub struct Nesting {
     pub limit: usize,
 }
@@ -16,10 +16,7 @@ pub struct Nesting {
 fn deeper(a: Option<usize>, b: Option<usize>) -> Option<usize>
     ensures { result ≡ deeper_of a b }
 {
-    match (a, b) {
-        (Some(m), Some(n)) => Some(m.max(n)),
-        _ => None,
-    }
+    Some(a?.max(b?))
 }
 
 // The deepest of an operator's own operands.
@@ -44,10 +41,7 @@ impl Nesting {
     fn raise(self, depth: Option<usize>) -> Option<usize>
         ensures { result ≡ raised self.limit depth }
     {
-        match depth {
-            Some(n) if n < self.limit => Some(n + 1),
-            _ => None,
-        }
+        depth?.checked_add(1).filter(|&raised| raised <= self.limit)
     }
 }
 
@@ -80,18 +74,15 @@ impl<M: Copy> Interpretation<M, Option<usize>> for Nesting {
 fn is_single(stack: &[Option<usize>]) -> bool
     ensures { result ≡ single stack.now }
 {
-    match stack {
-        [Some(_)] => true,
-        _ => false,
-    }
+    matches!(stack, [Some(_)])
 }
 
 // Whether the rows write exactly one term with nesting up to the limit. With fewer lent entries than rows it says no.
 pub fn writes_term<M: Copy>(limit: usize, rows: &[Row<M>], depths: &mut [Option<usize>]) -> bool
     ensures { result ≡ (nat_le (length rows.now) (length depths.old) && writes_term limit rows.now) }
 {
-    match fold(&Nesting { limit }, rows, depths) {
-        Some(top) => is_single(&depths[top..]),
-        None => false,
-    }
+    let Some(top) = fold(&Nesting { limit }, rows, depths) else {
+        return false;
+    };
+    is_single(&depths[top..])
 }

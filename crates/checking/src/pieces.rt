@@ -1,56 +1,56 @@
 // Pieces of a unit's tables: which keep the rules of reading.
 
-ghost use Rattle.std.specs.Prelude.{◌≡◌, ◌≤◌, ◌&&◌, length, nat_eq, nat_lt};
-ghost use Rattle.terms.specs.Numbers.{in_span};
-ghost use Rattle.jcode.specs.ReadStatements.{nesting};
-ghost use Rattle.jcode.specs.Units.{term_in};
-ghost use Rattle.checking.specs.Nesting.{writes_term};
-ghost use Rattle.checking.specs.Tests.{all_of, apart};
-ghost use Rattle.checking.specs.Pieces.{same_name, fits as fits_in, is_name, is_text, is_label, is_domain, is_declaration, row_known, is_term, is_list};
+ghost use Rattle.std.specs.Prelude.{◌≡◌, nat_eq, nat_lt};
+ghost use Rattle.std.specs.List.{list_all};
+ghost use Rattle.checking.specs.Tests.{apart};
+ghost use Rattle.checking.specs.Pieces.{same_name, fits as fits_in, is_name, is_text, is_label, is_domain, is_declaration, row_known, is_list};
 
-use super::nesting::writes_term;
-use super::term::term_rows;
-use super::test::{Likeness, Test, all_pass, are_apart};
+use super::apart::are_apart;
 use jcode::mention::{Stage, UnitRow};
 use jcode::piece;
 use jcode::piece::is_word;
-use jcode::scope::contains;
 use jcode::span::Span;
-use jcode::statement::Term;
 use jcode::variable::{Domain, Variable};
-use terms::number::{GREATEST, LEAST};
+use terms::number::spans;
 use terms::row::Row;
 use terms::word::same_word;
+
+// How long a name and a text may be.
+const NAME_LIMIT: usize = 32;
+
+const TEXT_LIMIT: usize = 80;
+
+// The greatest label.
+const LABEL_LIMIT: u16 = 9_999;
+
+// How many variables NEW may list.
+pub(super) const LIST_LIMIT: usize = 8;
 
 // Whether the span lies within the bytes.
 fn fits(bytes: &[u8], span: Span) -> bool
     ensures { result ≡ fits_in bytes.now span }
 {
-    span.start <= bytes.len() && span.length <= bytes.len() - span.start
+    span.start
+        .checked_add(span.length)
+        .is_some_and(|end| end <= bytes.len())
 }
 
 pub(super) fn is_name(bytes: &[u8], span: Span) -> bool
     ensures { result ≡ is_name bytes.now span }
 {
-    fits(bytes, span) && span.length <= 32 && is_word(span.of(bytes))
+    fits(bytes, span) && span.length <= NAME_LIMIT && is_word(span.of(bytes))
 }
 
 pub(super) fn is_text(bytes: &[u8], span: Span) -> bool
     ensures { result ≡ is_text bytes.now span }
 {
-    fits(bytes, span) && span.length <= 80 && piece::is_text(span.of(bytes))
+    fits(bytes, span) && span.length <= TEXT_LIMIT && piece::is_text(span.of(bytes))
 }
 
 pub(super) fn is_label(label: u16) -> bool
     ensures { result ≡ is_label label }
 {
-    1 <= label && label <= 9_999
-}
-
-fn spans(number: i64) -> bool
-    ensures { result ≡ in_span number }
-{
-    LEAST <= number && number <= GREATEST
+    (1..=LABEL_LIMIT).contains(&label)
 }
 
 fn is_domain(domain: Domain) -> bool
@@ -58,114 +58,71 @@ fn is_domain(domain: Domain) -> bool
 {
     match domain {
         Domain::Subrange { low, high } => spans(low) && spans(high) && low <= high,
-        _ => true,
+        Domain::Integer | Domain::Boolean => true,
     }
 }
 
-// The declarations of a unit in these bytes.
-#[derive(Clone, Copy)]
-struct Declarations<'a> {
-    bytes: &'a [u8],
+fn is_declaration(bytes: &[u8], variable: Variable) -> bool
+    ensures { result ≡ is_declaration bytes.now variable }
+{
+    is_name(bytes, variable.name) && is_domain(variable.domain)
 }
 
-impl<'a> Test<Variable> for Declarations<'a> {
-    ghost passes = { λ s. is_declaration s.bytes.now };
-
-    fn test(&self, x: Variable) -> bool {
-        is_name(self.bytes, x.name) && is_domain(x.domain)
-    }
-}
-
-impl<'a> Likeness<Variable> for Declarations<'a> {
-    ghost alike = { λ s. same_name s.bytes.now };
-
-    fn are_alike(&self, x: Variable, y: Variable) -> bool {
-        same_word(x.name.of(self.bytes), y.name.of(self.bytes))
-    }
-}
-
-// Whether each variable keeps the rules of a declaration, and no two have one name.
+// Whether each variable keeps the rules of a declaration.
 pub(super) fn are_declarations(bytes: &[u8], variables: &[Variable]) -> bool
-    ensures { result ≡ (all_of (is_declaration bytes.now) variables.now && apart (same_name bytes.now) variables.now) }
+    ensures { result ≡ list_all (is_declaration bytes.now) variables.now }
 {
-    let declarations = Declarations { bytes };
-    all_pass(&declarations, variables) && are_apart(&declarations, variables)
+    variables.iter().all(|&v| is_declaration(bytes, v))
 }
 
-// What a term can mention: the variables below a count, and for `new!` those that are listed.
-#[derive(Clone, Copy)]
-struct Known<'a> {
-    count: usize,
-    listed: &'a [usize],
+// Whether no two have one name.
+pub(super) fn have_own_names(bytes: &[u8], variables: &[Variable]) -> bool
+    ensures { result ≡ apart (same_name bytes.now) variables.now }
+{
+    are_apart(variables, |v, w| {
+        same_word(v.name.of(bytes), w.name.of(bytes))
+    })
 }
 
-impl<'a> Test<UnitRow> for Known<'a> {
-    ghost passes = { λ s. row_known s.count s.listed.now };
-
-    fn test(&self, x: UnitRow) -> bool {
-        match x {
-            Row::Constant(number) => spans(number),
-            Row::Mention(mention) => {
-                mention.variable < self.count
-                    && match mention.stage {
-                        Stage::Current => true,
-                        Stage::New => contains(self.listed, mention.variable),
-                    }
-            }
-            Row::Operator(_) => true,
+// Whether a term can have this row, with so many variables, where NEW lists these.
+fn is_known(count: usize, listed: &[usize], row: UnitRow) -> bool
+    ensures { result ≡ row_known count listed.now row }
+{
+    match row {
+        Row::Constant(number) => spans(number),
+        Row::Mention(mention) => {
+            mention.variable < count
+                && match mention.stage {
+                    Stage::Current => true,
+                    Stage::New => listed.contains(&mention.variable),
+                }
         }
+        Row::Operator(_) => true,
     }
 }
 
-// The deepest that a unit's term may nest.
-const NESTING: usize = 32;
-
-fn is_complete(rows: &[UnitRow], term: Term, depths: &mut [Option<usize>]) -> bool
-    requires { length rows.now ≤ length depths.old }
-    ensures { result ≡ writes_term nesting (term_in rows.now term) }
+// Whether a term can have these rows.
+pub(super) fn are_known(count: usize, listed: &[usize], rows: &[UnitRow]) -> bool
+    ensures { result ≡ list_all (row_known count listed.now) rows.now }
 {
-    writes_term(NESTING, term_rows(rows, term), depths)
+    rows.iter().all(|&row| is_known(count, listed, row))
 }
 
-// Whether a term's rows write one, with so many variables, where NEW lists these.
-pub(super) fn is_term(
-    count: usize,
-    listed: &[usize],
-    rows: &[UnitRow],
-    term: Term,
-    depths: &mut [Option<usize>],
-) -> bool
-    requires { length rows.now ≤ length depths.old }
-    ensures { result ≡ is_term count listed.now (term_in rows.now term) }
+fn are_below(count: usize, numbers: &[usize]) -> bool
+    ensures { result ≡ list_all (λ n. nat_lt n count) numbers.now }
 {
-    is_complete(rows, term, depths) && all_pass(&Known { count, listed }, term_rows(rows, term))
+    numbers.iter().all(|&n| n < count)
 }
 
-// Numbers of variables, of which there are so many.
-#[derive(Clone, Copy)]
-struct Numbers {
-    count: usize,
+fn are_distinct(numbers: &[usize]) -> bool
+    ensures { result ≡ apart nat_eq numbers.now }
+{
+    are_apart(numbers, |m, n| m == n)
 }
 
-impl Test<usize> for Numbers {
-    ghost passes = { λ s v. nat_lt v s.count };
-
-    fn test(&self, x: usize) -> bool {
-        x < self.count
-    }
-}
-
-impl Likeness<usize> for Numbers {
-    ghost alike = { λ s. nat_eq };
-
-    fn are_alike(&self, x: usize, y: usize) -> bool {
-        x == y
-    }
-}
-
+// Whether NEW can list these, with so many variables.
 pub(super) fn is_list(count: usize, listed: &[usize]) -> bool
     ensures { result ≡ is_list count listed.now }
 {
-    let numbers = Numbers { count };
-    listed.len() <= 8 && all_pass(&numbers, listed) && are_apart(&numbers, listed)
+    listed.len() <= LIST_LIMIT && are_below(count, listed) && are_distinct(listed)
 }

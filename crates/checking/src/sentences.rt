@@ -1,73 +1,69 @@
 // Statements that keep the rules of reading.
 
-ghost use Rattle.std.specs.Prelude.{◌≡◌, ◌≤◌, map, length};
-ghost use Rattle.jcode.specs.Units.{sentence_in};
-ghost use Rattle.checking.specs.Sentences.{keeps as keeps_rules};
-ghost use Rattle.checking.specs.Tests.{all_of};
+ghost use Rattle.std.specs.Prelude.{◌≡◌, length};
+ghost use Rattle.jcode.specs.Units.{term_in, sentence_in};
+ghost use Rattle.checking.specs.Pieces.{is_term};
+ghost use Rattle.checking.specs.Sentences.{keeps};
 
-use super::pieces::{is_label, is_list, is_term, is_text};
-use jcode::mention::UnitRow;
-use jcode::statement::Statement;
+use super::pieces::{are_known, is_label, is_list, is_text};
+use super::room::Room;
+use super::term::term_rows;
+use super::term_table::TermTable;
+use jcode::statement::{Statement, Term};
 
-// Whether the statement's texts, labels, lists and terms keep their rules, where the unit has so many variables.
-fn keeps(
-    bytes: &[u8],
-    count: usize,
-    rows: &[UnitRow],
-    statement: Statement,
-    depths: &mut [Option<usize>],
-) -> bool
-    requires { length rows.now ≤ length depths.old }
-    ensures { result ≡ keeps_rules bytes.now count (sentence_in rows.now statement) }
-{
-    match statement {
-        Statement::Hang => true,
-        Statement::Break { text } => is_text(bytes, text),
-        Statement::Require { condition, text } => {
-            is_term(count, &[], rows, condition, depths) && is_text(bytes, text)
-        }
-        Statement::Proclaim { condition } => is_term(count, &[], rows, condition, depths),
-        Statement::New {
-            listing,
-            condition,
-            text,
-        } => {
-            is_list(count, listing.listed())
-                && is_term(count, listing.listed(), rows, condition, depths)
-                && is_text(bytes, text)
-        }
-        Statement::Assign {
-            variable,
-            shadow,
-            value,
-        } => {
-            variable < count
-                && is_term(count, &[], rows, shadow, depths)
-                && is_term(count, &[], rows, value, depths)
-        }
-        Statement::Split { label } | Statement::Join { label } => is_label(label),
-        Statement::When { condition, label } => {
-            is_term(count, &[], rows, condition, depths) && is_label(label)
-        }
-        Statement::Branch { text, label } => is_text(bytes, text) && is_label(label),
+impl TermTable<'_> {
+    // Whether a term's rows write one, where NEW lists these variables.
+    fn is_term(&self, listed: &[usize], term: Term, room: &mut Room<Option<usize>>) -> bool
+        ensures { result ≡ is_term (length self.now.types.variables.now) listed.now (term_in self.now.rows.now term) }
+    {
+        self.is_complete(term, room)
+            && are_known(
+                self.types.variables.len(),
+                listed,
+                term_rows(self.rows, term),
+            )
     }
-}
 
-// Whether every statement keeps them.
-pub(super) fn all_keep(
-    bytes: &[u8],
-    count: usize,
-    statements: &[Statement],
-    rows: &[UnitRow],
-) -> bool
-    requires { length rows.now ≤ 2000 }
-    ensures { result ≡ all_of (keeps_rules bytes.now count) (map (sentence_in rows.now) statements.now) }
-{
-    let mut depths = [None; 2_000];
-    for i in 0..statements.len() {
-        if !keeps(bytes, count, rows, statements[i], &mut depths) {
-            return false;
+    // Whether the statement's texts, labels, lists and terms keep their rules.
+    pub(super) fn keeps(
+        &self,
+        bytes: &[u8],
+        statement: Statement,
+        room: &mut Room<Option<usize>>,
+    ) -> bool
+        ensures { result ≡ keeps bytes.now (length self.now.types.variables.now) (sentence_in self.now.rows.now statement) }
+    {
+        let count = self.types.variables.len();
+        match statement {
+            Statement::Hang => true,
+            Statement::Break { text } => is_text(bytes, text),
+            Statement::Require { condition, text } => {
+                self.is_term(&[], condition, room) && is_text(bytes, text)
+            }
+            Statement::Proclaim { condition } => self.is_term(&[], condition, room),
+            Statement::New {
+                listing,
+                condition,
+                text,
+            } => {
+                is_list(count, listing.listed())
+                    && self.is_term(listing.listed(), condition, room)
+                    && is_text(bytes, text)
+            }
+            Statement::Assign {
+                variable,
+                shadow,
+                value,
+            } => {
+                variable < count
+                    && self.is_term(&[], shadow, room)
+                    && self.is_term(&[], value, room)
+            }
+            Statement::Split { label } | Statement::Join { label } => is_label(label),
+            Statement::When { condition, label } => {
+                self.is_term(&[], condition, room) && is_label(label)
+            }
+            Statement::Branch { text, label } => is_text(bytes, text) && is_label(label),
         }
     }
-    true
 }

@@ -1,6 +1,6 @@
 // Steps: what the statements of a unit are to the flow of control.
 
-ghost use Rattle.std.specs.Prelude.{◌≡◌, ◌≤◌, List, map, length};
+ghost use Rattle.std.specs.Prelude.{◌≡◌, ◌≤◌, map, length};
 ghost use Rattle.flow.specs.Flows.{steps_in};
 ghost use Rattle.checking.specs.Steps.{record_step};
 
@@ -30,8 +30,8 @@ pub(super) fn flow_of(statements: &[Statement]) -> Flow
     ensures { steps_in result ≡ map record_step statements.now }
 {
     let mut flow = Flow::new();
-    for i in 0..statements.len() {
-        flow.push(step_of(statements[i])).unwrap();
+    for statement in statements {
+        flow.push(step_of(*statement)).unwrap();
     }
     flow
 }

@@ -5,12 +5,11 @@ ghost use Rattle.jcode.specs.Units.{term_in};
 
 use jcode::mention::UnitRow;
 use jcode::statement::Term;
+use terms::part::part;
 
 // The rows of a term, as far as there are such.
 pub fn term_rows(rows: &[UnitRow], term: Term) -> &[UnitRow]
     ensures { result.now ≡ term_in rows.now term }
 {
-    let first = term.first.min(rows.len());
-    let count = term.rows.min(rows.len() - first);
-    &rows[first..first + count]
+    part(rows, term.first, term.rows)
 }

@@ -2,14 +2,13 @@
 
 ghost use Rattle.std.specs.Prelude.{◌≡◌};
 ghost use Rattle.std.specs.List.{slice_get};
-ghost use Rattle.checking.specs.Types.{domain_kind, domain_bounds, domains_in, mention_kind, mention_bounds};
+ghost use Rattle.checking.specs.Types.{domain_kind, domain_bounds, domains_in, mention_domain, mention_kind, mention_bounds};
 
-use super::kinding::Kinds;
 use jcode::mention::{Aspect, Mention};
 use jcode::variable::{Domain, Variable};
 use reckoning::mark::Mark;
-use reckoning::mentions::Mentions;
 use terms::kind::Kind;
+use terms::mentions::Mentions;
 
 #[derive(Clone, Copy)]
 pub struct Types<'a> {
@@ -45,38 +44,32 @@ impl Types<'_> {
     pub(super) fn domain(&self, variable: usize) -> Option<Domain>
         ensures { result ≡ slice_get (domains_in self.now.variables.now) variable }
     {
-        if variable < self.variables.len() {
-            Some(self.variables[variable].domain)
-        } else {
-            None
-        }
+        self.variables.get(variable).map(|variable| variable.domain)
     }
-}
 
-impl<'a> Kinds<Mention> for Types<'a> {
-    ghost kind_at = { λ s. mention_kind (domains_in s.variables.now) };
-
-    fn kind(&self, mention: Mention) -> Option<Kind> {
+    // The type of what is mentioned: a shadow is a truth.
+    fn domain_of(&self, mention: Mention) -> Option<Domain>
+        ensures { result ≡ mention_domain (domains_in self.now.variables.now) mention }
+    {
         match mention.aspect {
-            Aspect::Shadow => Some(Kind::Truth),
-            Aspect::Value => match self.domain(mention.variable) {
-                Some(domain) => Some(domain_kind(domain)),
-                None => None,
-            },
+            Aspect::Shadow => Some(Domain::Boolean),
+            Aspect::Value => self.domain(mention.variable),
         }
     }
 }
 
-impl<'a> Mentions<Mention> for Types<'a> {
+impl<'a> Mentions<Mention, Kind> for Types<'a> {
+    ghost found = { λ s. mention_kind (domains_in s.variables.now) };
+
+    fn find(&self, mention: Mention) -> Option<Kind> {
+        self.domain_of(mention).map(domain_kind)
+    }
+}
+
+impl<'a> Mentions<Mention, Mark> for Types<'a> {
     ghost found = { λ s. mention_bounds (domains_in s.variables.now) };
 
     fn find(&self, mention: Mention) -> Option<Mark> {
-        match mention.aspect {
-            Aspect::Shadow => Some(domain_bounds(Domain::Boolean)),
-            Aspect::Value => match self.domain(mention.variable) {
-                Some(domain) => Some(domain_bounds(domain)),
-                None => None,
-            },
-        }
+        self.domain_of(mention).map(domain_bounds)
     }
 }

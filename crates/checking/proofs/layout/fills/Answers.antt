@@ -4,15 +4,15 @@ use Rattle.jcode.specs.declared.statement.Statement.TheVariants.{Hang}
 use Rattle.checking.specs.Layouts.{fills_from}
 use Rattle.checking.proofs.layout.fills.Goals as goal
 
-pub returns-in-None : goal.returns-in-None
-returns-in-None c =
-    ap (λ o. fills_from c.args.total o (drop (c.loop-i.i + 1) c.args.statements.now)) c.in-None.ensures
-    ∙ sym (at_drop_more (fills_from c.args.total (Some c.loop-i.used)) c.args.statements.now c.loop-i.i Hang c.loop-i-test.true) ∙ c.loop-i.invariant
+pub returns-in_default : goal.returns-in_default
+returns-in_default c =
+    ap (λ o. fills_from c.args.total o (drop (c.loop-statement.statement-index + 1) c.args.statements.now)) c.in_default.ensures
+    ∙ sym (at_drop_more (fills_from c.args.total (Some c.loop-statement.used)) c.args.statements.now c.loop-statement.statement-index Hang c.loop-statement-test.true) ∙ c.loop-statement.invariant
 
-pub loop-i-preserved : goal.loop-i-preserved
-loop-i-preserved c =
-    ap (λ o. fills_from c.args.total o (drop (c.loop-i.i + 1) c.args.statements.now)) c.in-Some.ensures
-    ∙ sym (at_drop_more (fills_from c.args.total (Some c.loop-i.used)) c.args.statements.now c.loop-i.i Hang c.loop-i-test.true) ∙ c.loop-i.invariant
+pub loop-statement-preserved : goal.loop-statement-preserved
+loop-statement-preserved c =
+    ap (λ o. fills_from c.args.total o (drop (c.loop-statement.statement-index + 1) c.args.statements.now)) c.in-Some.ensures
+    ∙ sym (at_drop_more (fills_from c.args.total (Some c.loop-statement.used)) c.args.statements.now c.loop-statement.statement-index Hang c.loop-statement-test.true) ∙ c.loop-statement.invariant
 
 pub returns : goal.returns
-returns c = sym (at_drop_all (fills_from c.args.total (Some c.loop-i.used)) c.args.statements.now c.loop-i.i c.loop-i-test.false) ∙ c.loop-i.invariant
+returns c = sym (at_drop_all (fills_from c.args.total (Some c.loop-statement.used)) c.args.statements.now c.loop-statement.statement-index c.loop-statement-test.false) ∙ c.loop-statement.invariant

@@ -1,12 +1,15 @@
-use Rattle.std.proofs.Common.{◌≡◌, ◌-◌, ◌&&◌, eqb, length, take, drop, sym, ap, ◌∙◌, ap₂, rules}
-use Rattle.std.proofs.lemmas.List.{take_rest}
-use Rattle.std.proofs.lemmas.Bool.{le-leb, eq-eqb}
-use Rattle.checking.specs.Tests.{all_of}
+use Rattle.std.proofs.Common.{◌≡◌, drop, eqb, length, arith, rules, tests}
+use Rattle.std.proofs.lemmas.Grind.{common_steps}
+use Rattle.std.proofs.lemmas.Iterator.{YieldsList-from_slice}
+use Rattle.std.proofs.lemmas.Iterator.Adapters.{YieldsList-from_skip}
+use Rattle.std.proofs.lemmas.Iterator.Search.{all_from_yields_List}
+use Rattle.std.specs.List.{list_all}
 use Rattle.checking.proofs.layout.is_padded.Goals as goal
 
-pub returns-then-listing-le8 : goal.returns-then-listing-le8
-returns-then-listing-le8 c =
+pub returns-then-listing-le-LIST_LIMIT : goal.returns-then-listing-le-LIST_LIMIT
+returns-then-listing-le-LIST_LIMIT c =
     let l = c.args.listing in
+    let zeros : c.all.result ≡ list_all (λ v. eqb v 0) (drop l.count l.variables) =
+    all_from_yields_List (λ v. eqb v 0) _ _ c.all.result c.all.ensures.ran (YieldsList-from_skip l.count (YieldsList-from_slice l.variables cc) cc) (λ x b q k. search (rules, tests)) in
     let eight : length l.variables ≡ 8 = search rules in
-    let zeros : c.all_pass.result ≡ all_of (λ v. eqb v 0) (take (length l.variables - l.count) (drop l.count l.variables)) = c.all_pass.ensures in
-    zeros ∙ ap₂ ◌&&◌ (sym (le-leb l.count 8 c.if-listing-le8.true)) (ap₂ ◌&&◌ (sym (eq-eqb (length l.variables) 8 eight)) (ap (all_of (λ v. eqb v 0)) (take_rest l.variables l.count)))
+    grind (arith, common_steps, zeros, eight)

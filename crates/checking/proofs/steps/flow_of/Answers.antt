@@ -7,13 +7,13 @@ use Rattle.checking.specs.Steps.{record_step}
 use Rattle.checking.proofs.Flowing.{pushed_more}
 use Rattle.checking.proofs.steps.flow_of.Goals as goal
 
-pub loop-i-preserved : goal.loop-i-preserved
-loop-i-preserved c =
-    let long : length (map record_step (take c.loop-i.i c.args.statements.now)) ≤ c.loop-i.i = simp (length-map, length-take) (omega arith) in
-    let few : length (steps_in c.loop-i.flow) < 200 = omega (arith, ap length c.loop-i.invariant, c.requires, c.loop-i-test.true) in
-    pushed_more (steps_in c.loop-i.flow) (steps_in c.push.new.self) c.step_of.result c.push.result c.push.ensures few
-    ∙ ap₂ (λ u s. u ++ s ∷ []) c.loop-i.invariant c.step_of.ensures
-    ∙ sym (map_more record_step c.args.statements.now c.loop-i.i Hang c.loop-i-test.true)
+pub loop-statement-preserved : goal.loop-statement-preserved
+loop-statement-preserved c =
+    let long : length (map record_step (take c.loop-statement.statement-index c.args.statements.now)) ≤ c.loop-statement.statement-index = simp (length-map, length-take) (omega arith) in
+    let few : length (steps_in c.loop-statement.flow) < 200 = omega (arith, ap length c.loop-statement.invariant, c.requires, c.loop-statement-test.true) in
+    pushed_more (steps_in c.loop-statement.flow) (steps_in c.push.new.self) c.step_of.result c.push.result c.push.ensures few
+    ∙ ap₂ (λ u s. u ++ s ∷ []) c.loop-statement.invariant c.step_of.ensures
+    ∙ sym (map_more record_step c.args.statements.now c.loop-statement.statement-index Hang c.loop-statement-test.true)
 
 pub returns : goal.returns
-returns c = c.loop-i.invariant ∙ ap (map record_step) (take_all c.loop-i.i c.args.statements.now c.loop-i-test.false)
+returns c = c.loop-statement.invariant ∙ ap (map record_step) (take_all c.loop-statement.statement-index c.args.statements.now c.loop-statement-test.false)

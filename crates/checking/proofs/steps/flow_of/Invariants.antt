@@ -3,5 +3,5 @@ use Rattle.flow.specs.Flows.{steps_in}
 use Rattle.checking.specs.Steps.{record_step}
 use Rattle.checking.proofs.steps.flow_of.Given as goal
 
-abbrev pub invariant-loop-i : goal.invariant-loop-i
-invariant-loop-i l = steps_in l.flow ≡ map record_step (take l.i l.statements)
+abbrev pub invariant-loop-statement : goal.invariant-loop-statement
+invariant-loop-statement l = steps_in l.flow ≡ map record_step (take l.statement-index l.statements)
