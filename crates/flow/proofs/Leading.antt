@@ -1,6 +1,6 @@
 -- Where control and a path may go.
-use Rattle.std.proofs.Common.{◌≡◌, ℕ, zero, suc, ◌+◌, ◌-◌, ◌<◌, ◌≤◌, Bool, true, false, cond, ◌≢◌, ◌⊎◌, List, [], ◌∷◌, length, get_or, Some, Option, sym, refl, ap, ◌∙◌, inl, inr, ⊎_elim, true≢false, arith}
-use Rattle.std.specs.List.{AllByRecursion as All, filter, range_with_len}
+use Rattle.std.proofs.Common.{◌≡◌, ℕ, zero, suc, ◌+◌, ◌-◌, ◌<◌, ◌≤◌, Bool, true, false, cond, ◌≢◌, List, [], ◌∷◌, length, get_or, Some, Option, sym, refl, ap, ◌∙◌, ⊎_elim, true≢false, arith}
+use Rattle.std.specs.List.{AllByRecursion as All, Contains, filter, range_with_len}
 use Rattle.std.proofs.lemmas.List.{get_or_past}
 use Rattle.std.proofs.lemmas.Bool.{cond_both, cond-false, cases_lt, false_from_ne_true}
 use Rattle.std.proofs.ByRecursion.{All-weaker, All-get_or}
@@ -58,23 +58,21 @@ onward_may u from = All-weaker _ (λ j. (j < length u) × (may u from j ≡ true
 pub onward_inside : (u : List Step) (from : Option ℕ) (i j : ℕ) → i < length (onward u from) → j ≡ get_or (onward u from) i 0 → j < length u
 onward_inside u from i j h is = rw is (All-get_or (λ x. (x < length u) × (may u from x ≡ true)) (onward u from) i 0 h (onward_may u from)).0
 
--- x is in the list
-abbrev pub In : {X : Type 0} → X → List X → Type 0
-In x [] = ⊥
-In x (y ∷ ys) = (x ≡ y) ⊎ In x ys
+behind : (xs : List ℕ) (y x : ℕ) → Contains xs x → Contains (y ∷ xs) x
+behind xs y x h = (suc h.0, (let l = h.1 in omega arith), h.2)
 
-among_in : (u : List Step) (from : Option ℕ) (a m j : ℕ) → a ≤ j → j < a + m → may u from j ≡ true → In j (among u from a m)
+among_in : (u : List Step) (from : Option ℕ) (a m j : ℕ) → a ≤ j → j < a + m → may u from j ≡ true → Contains (among u from a m) j
 among_in u from a zero j h k e = absurd (omega arith)
 among_in u from a (suc m) j h k e =
     ⊎_elim
-    (λ later. cond_both (may u from a) (a ∷ among u from (a + 1) m) (among u from (a + 1) m) (In j)
-    (λ y. inr (among_in u from (a + 1) m j (omega arith) (omega arith) e)) (λ n. among_in u from (a + 1) m j (omega arith) (omega arith) e))
+    (λ later. cond_both (may u from a) (a ∷ among u from (a + 1) m) (among u from (a + 1) m) (λ js. Contains js j)
+    (λ y. behind (among u from (a + 1) m) a j (among_in u from (a + 1) m j (omega arith) (omega arith) e)) (λ n. among_in u from (a + 1) m j (omega arith) (omega arith) e))
     (λ not-later. let is : j ≡ a = omega arith in
-    cond_both (may u from a) (a ∷ among u from (a + 1) m) (among u from (a + 1) m) (In j)
-    (λ y. inl is) (λ n. absurd (true≢false (sym e ∙ ap (may u from) is ∙ n))))
+    cond_both (may u from a) (a ∷ among u from (a + 1) m) (among u from (a + 1) m) (λ js. Contains js j)
+    (λ y. (0, omega arith, sym is)) (λ n. absurd (true≢false (sym e ∙ ap (may u from) is ∙ n))))
     (cases_lt a j)
 
-pub onward_in : (u : List Step) (from : Option ℕ) (j : ℕ) → j < length u → may u from j ≡ true → In j (onward u from)
+pub onward_in : (u : List Step) (from : Option ℕ) (j : ℕ) → j < length u → may u from j ≡ true → Contains (onward u from) j
 onward_in u from j h e = among_in u from 0 (length u) j (omega arith) (omega arith) e
 
 -- ---- where nothing is to go to

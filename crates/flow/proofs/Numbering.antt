@@ -1,6 +1,10 @@
 -- The list of paths has the paths, all and nothing else, in their order.
-use Rattle.std.proofs.Common.{◌≡◌, ℕ, zero, suc, ◌+◌, ◌<◌, ◌≤◌, Bool, true, false, ◌≢◌, List, [], ◌∷◌, ◌++◌, map, length, get_or, Some, None, Option, sym, refl, ap, ◌∙◌, subst, inl, inr, ⊎_elim, arith}
-use Rattle.std.specs.List.{AllByRecursion as All}
+use Rattle.std.proofs.Common.{◌≡◌, ℕ, zero, suc, ◌+◌, ◌<◌, ◌≤◌, Bool, true, false, ◌≢◌, List, [], ◌∷◌, ◌++◌, map, length, take, get_or, Some, None, Option, sym, refl, ap, ◌∙◌, subst, inl, inr, ⊎_elim, arith}
+use Rattle.std.specs.List.{AllByRecursion as All, Contains}
+use Rattle.std.proofs.lemmas.List.{get_or-map, get_or_default, length-map}
+use Rattle.std.proofs.lemmas.List.Concat.{get_or-flat_map}
+use Rattle.std.proofs.lemmas.List.Elements.{Contains-append_left, Contains-append_right}
+use Rattle.std.proofs.lemmas.List.Folds.{length-flat_map-take}
 use Rattle.std.proofs.lemmas.Bool.{cond_both, cases_order}
 use Rattle.std.proofs.ByRecursion.{All-weaker, All-append, All-map, All-get_or}
 use Rattle.flow.specs.declared.step.Step.{Step}
@@ -10,7 +14,7 @@ use Rattle.flow.specs.Paths.{Way, PathTo, Path, required, Before}
 use Rattle.std.specs.List.{flat_map}
 use Rattle.flow.specs.Numbers.{may, onward, here, ways, ways_to, paths_to, paths, Numbered}
 use Rattle.flow.proofs.Leading.{among}
-use Rattle.flow.proofs.Leading.{never, break_is, may_next, next_may, In, onward_may, onward_in, break_inside}
+use Rattle.flow.proofs.Leading.{never, break_is, may_next, next_may, onward_may, onward_in, break_inside}
 use Rattle.flow.proofs.Walking.{short, way_walk}
 
 -- ---- parts of the list
@@ -32,31 +36,23 @@ ways_each target P f u i h k = All-append P (here (target i) i) (map (λ way. i 
     (here_all P (target i) i h)
     (All-map P (λ way. i ∷ way) (flat_map (ways target f u) (onward u (Some i))) (flat_map_each (λ way. P (i ∷ way)) (ways target f u) u (Some i) k))
 
-in_left : {X : Type 0} (x : X) (xs ys : List X) → In x xs → In x (xs ++ ys)
-in_left x [] ys h = absurd h
-in_left x (y ∷ xs) ys h = ⊎_elim inl (λ k. inr (in_left x xs ys k)) h
+in_map : (i : ℕ) (x : List ℕ) (xs : List (List ℕ)) → Contains xs x → Contains (map (λ way. i ∷ way) xs) (i ∷ x)
+in_map i x xs h = (h.0, (let l = h.1 in omega (arith, length-map xs (λ way. i ∷ way))), get_or-map (λ way. i ∷ way) xs h.0 x (i ∷ x) h.1 ∙ ap (λ way. i ∷ way) h.2)
 
-in_right : {X : Type 0} (x : X) (xs ys : List X) → In x ys → In x (xs ++ ys)
-in_right x [] ys h = h
-in_right x (y ∷ xs) ys h = inr (in_right x xs ys h)
+in_flat_map : (on : ℕ → List (List ℕ)) (x : List ℕ) (j : ℕ) (js : List ℕ) → Contains js j → Contains (on j) x → Contains (flat_map on js) x
+in_flat_map on x j js h k =
+    let l : k.0 < length (on (get_or js h.0 j)) = subst (λ (y : ℕ). k.0 < length (on y)) (sym h.2) k.1 in (
+      length (flat_map on (take h.0 js)) + k.0,
+      omega (arith, length-flat_map-take on js h.0 j h.1),
+      get_or-flat_map on js h.0 k.0 j x h.1 l ∙ ap (λ (y : ℕ). get_or (on y) k.0 x) h.2 ∙ k.2,
+    )
 
-in_map : (i : ℕ) (x : List ℕ) (xs : List (List ℕ)) → In x xs → In (i ∷ x) (map (λ way. i ∷ way) xs)
-in_map i x [] h = absurd h
-in_map i x (y ∷ xs) h = ⊎_elim (λ e. inl (ap (λ way. i ∷ way) e)) (λ k. inr (in_map i x xs k)) h
-
-in_flat_map : (on : ℕ → List (List ℕ)) (x : List ℕ) (j : ℕ) (js : List ℕ) → In j js → In x (on j) → In x (flat_map on js)
-in_flat_map on x j [] h k = absurd h
-in_flat_map on x j (l ∷ js) h k = ⊎_elim
-    (λ e. in_left x (on l) (flat_map on js) (subst (λ (o : ℕ). In x (on o)) e k))
-    (λ t. in_right x (on l) (flat_map on js) (in_flat_map on x j js t k)) h
-
-in_here : (b : Bool) (i : ℕ) → b ≡ true → In (i ∷ []) (here b i)
-in_here true i e = inl refl
+in_here : (b : Bool) (i : ℕ) → b ≡ true → Contains (here b i) (i ∷ [])
+in_here true i e = (0, omega arith, refl)
 in_here false i e = never e
 
-in_at : {X : Type 0} (x d : X) (xs : List X) → In x xs → (k : ℕ) × (k < length xs) × (get_or xs k d ≡ x)
-in_at x d [] h = absurd h
-in_at x d (y ∷ ys) h = ⊎_elim (λ e. (0, omega arith, sym e)) (λ t. let r = in_at x d ys t in (suc r.0, (let l = r.1 in omega arith), r.2)) h
+in_at : (x d : List ℕ) (xs : List (List ℕ)) → Contains xs x → (k : ℕ) × (k < length xs) × (get_or xs k d ≡ x)
+in_at x d xs h = (h.0, h.1, get_or_default xs h.0 d x h.1 ∙ h.2)
 
 -- ---- nothing else
 -- a way that begins with i
@@ -89,14 +85,14 @@ ways_length target (suc f) u i = ways_each target (λ p. length p ≤ suc f) f u
     (λ j l e. All-weaker (λ p. length p ≤ f) (λ way. length (i ∷ way) ≤ suc f) (λ way b. omega arith) (ways target f u j) (ways_length target f u j))
 
 -- ---- all of them
-pub ways_complete : (target : ℕ → Bool) (f : ℕ) (u : List Step) (i : ℕ) (rest : List ℕ) → Way target u i rest → length rest < f → In (i ∷ rest) (ways target f u i)
+pub ways_complete : (target : ℕ → Bool) (f : ℕ) (u : List Step) (i : ℕ) (rest : List ℕ) → Way target u i rest → length rest < f → Contains (ways target f u i) (i ∷ rest)
 ways_complete target zero u i rest w h = absurd (omega arith)
-ways_complete target (suc f) u i [] w h = in_left (i ∷ []) (here (target i) i) (map (λ way. i ∷ way) (flat_map (ways target f u) (onward u (Some i)))) (in_here (target i) i w)
-ways_complete target (suc f) u i (j ∷ rest) w h = in_right (i ∷ j ∷ rest) (here (target i) i) (map (λ way. i ∷ way) (flat_map (ways target f u) (onward u (Some i))))
+ways_complete target (suc f) u i [] w h = Contains-append_left (here (target i) i) (map (λ way. i ∷ way) (flat_map (ways target f u) (onward u (Some i)))) (i ∷ []) (in_here (target i) i w)
+ways_complete target (suc f) u i (j ∷ rest) w h = Contains-append_right (here (target i) i) (map (λ way. i ∷ way) (flat_map (ways target f u) (onward u (Some i)))) (i ∷ j ∷ rest)
     (in_map i (j ∷ rest) (flat_map (ways target f u) (onward u (Some i)))
     (in_flat_map (ways target f u) (j ∷ rest) j (onward u (Some i)) (onward_in u (Some i) j w.0.0 (next_may u i j w.0 w.1)) (ways_complete target f u j rest w.2 (omega arith))))
 
-pub paths_complete : (target : ℕ → Bool) (u : List Step) → Acyclic u → (p : List ℕ) → PathTo target u p → In p (paths_to target u)
+pub paths_complete : (target : ℕ → Bool) (u : List Step) → Acyclic u → (p : List ℕ) → PathTo target u p → Contains (paths_to target u) p
 paths_complete target u a [] w = absurd w
 paths_complete target u a (i ∷ rest) w =
     let l = break_inside u i w.0 in

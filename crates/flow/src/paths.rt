@@ -37,7 +37,7 @@ fn one_require() -> Result<Flow, Full>
 }
 
 impl Paths {
-    // None where a statement reaches itself or there are more than 65,536 paths.
+    // None where a statement reaches itself or there are more paths than a unit may have.
     pub fn of(flow: Flow) -> Option<Paths>
         ensures { MatchOption result (TooMany (steps_in flow)) (λ p. steps_in p.flow ≡ steps_in flow) }
     {
