@@ -1,9 +1,9 @@
 // Kinding: the kind of a term, from the kinds of what it mentions.
 
 ghost use Rattle.std.specs.Prelude.{◌≡◌, length, if◌then◌else◌, None, nat_le};
-ghost use Rattle.terms.specs.Operators.{passes};
-ghost use Rattle.reckoning.specs.Kinds.{asked, is_kind, kinds_fit, kind_given, kinds, kind_of};
+ghost use Rattle.reckoning.specs.Kinds.{asked, is_kind, kind_given, kinds, kind_of};
 
+use terms::fits::Fits;
 use terms::fold::{Interpretation, outcome};
 use terms::kind::{Kind, Sort};
 use terms::mentions::Mentions;
@@ -26,27 +26,18 @@ fn asked(sort: Sort, shared: Kind) -> Kind
     }
 }
 
-// Whether an operand is of the kind that its place asks for.
-fn is_asked(shared: Kind, operand: Option<(Sort, Option<Kind>)>) -> bool
-    ensures { result ≡ passes (λ s k. is_kind k (asked shared s)) operand }
-{
-    operand.is_none_or(|(sort, found)| found == Some(asked(sort, shared)))
+// The kind that places which share a kind share.
+#[derive(Clone, Copy)]
+struct Shared {
+    kind: Kind,
 }
 
-// Whether the operands are of the operator's kinds, where those that share a kind share this one.
-fn kinds_fit(
-    shared: Kind,
-    operator: Operator,
-    a: Option<Kind>,
-    b: Option<Kind>,
-    c: Option<Kind>,
-) -> bool
-    ensures { result ≡ kinds_fit shared operator a b c }
-{
-    operator
-        .sorted(a, b, c)
-        .iter()
-        .all(|&operand| is_asked(shared, operand))
+impl Fits<Option<Kind>> for Shared {
+    ghost fits = { λ s sort found. is_kind found (asked s.kind sort) };
+
+    fn fits(&self, sort: Sort, operand: Option<Kind>) -> bool {
+        operand == Some(asked(sort, self.kind))
+    }
 }
 
 // The kind that an operator gives, `None` if its operands are not of its kinds.
@@ -55,8 +46,8 @@ fn given_kind(operator: Operator, a: Option<Kind>, b: Option<Kind>, c: Option<Ki
 {
     [Kind::Number, Kind::Truth]
         .iter()
-        .find(|&&shared| kinds_fit(shared, operator, a, b, c))
-        .map(|&shared| asked(operator.signature().result, shared))
+        .find(|&&kind| operator.takes(&Shared { kind }, a, b, c))
+        .map(|&kind| asked(operator.signature().result, kind))
 }
 
 impl<'a, M: Copy, K: Mentions<M, Kind>> Interpretation<M, Option<Kind>> for Kinding<'a, K> {

@@ -1,7 +1,6 @@
 // Points: one number of the span, or any number; the abstract domain of constants.
 
 ghost use Rattle.std.specs.Prelude.{◌≡◌, ◌-◌, ◌<◌, ◌≤◌, true, ◌&&◌, length, take};
-ghost use Rattle.terms.specs.Operators.{passes, operands};
 ghost use Rattle.reckoning.specs.Points.{is_point, point_holds, point_or, point_number, point_fits, points};
 ghost use Rattle.reckoning.specs.Evaluation.{evaluated};
 ghost use Rattle.reckoning.specs.Exactness.{Exact, Right};
@@ -11,6 +10,7 @@ use super::decision::Decision;
 use super::evaluation::evaluate;
 use super::mark::{ANY, Mark};
 use super::reckoning::Reckoning;
+use terms::fits::Fits;
 use terms::kind::{Kind, Sort};
 use terms::mentions::Mentions;
 use terms::number::{in_span, spans};
@@ -53,27 +53,14 @@ fn holds(mark: Mark, number: i64) -> bool
     !mark.is_point() || mark.low == number
 }
 
-fn fits(sort: Sort, mark: Mark) -> bool
-    ensures { result ≡ point_fits sort mark }
-{
-    let is_truth = mark.low == 0 || mark.low == 1;
-    mark.is_point() && (is_truth || sort != Sort::Of(Kind::Truth))
-}
+// An operand is a point, and a truth where its place takes one.
+impl Fits<Mark> for Points {
+    ghost fits = { λ _. point_fits };
 
-// Whether an operand is a point, and a truth where its place takes one.
-fn is_ready(operand: Option<(Sort, Mark)>) -> bool
-    ensures { result ≡ passes point_fits operand }
-{
-    operand.is_none_or(|(sort, mark)| fits(sort, mark))
-}
-
-fn are_ready(operator: Operator, a: Mark, b: Mark, c: Mark) -> bool
-    ensures { result ≡ operands point_fits operator a b c }
-{
-    operator
-        .sorted(a, b, c)
-        .iter()
-        .all(|&operand| is_ready(operand))
+    fn fits(&self, sort: Sort, operand: Mark) -> bool {
+        let is_truth = operand.low == 0 || operand.low == 1;
+        operand.is_point() && (is_truth || sort != Sort::Of(Kind::Truth))
+    }
 }
 
 impl Reckoning for Points {
@@ -96,7 +83,7 @@ impl Reckoning for Points {
     }
 
     fn apply(&self, operator: Operator, a: Mark, b: Mark, c: Mark) -> Mark {
-        if are_ready(operator, a, b, c) {
+        if operator.takes(self, a, b, c) {
             Mark::point_or_any(operator.compute(a.low, b.low, c.low))
         } else {
             ANY

@@ -1,7 +1,7 @@
 // Ranges: the numbers from a low to a high within the span, or any number; the abstract domain of intervals.
 
 ghost use Rattle.std.specs.Prelude.{◌≡◌, true};
-ghost use Rattle.terms.specs.Operators.{result_of, truths, passes, operands};
+ghost use Rattle.terms.specs.Operators.{result_of, truths};
 ghost use Rattle.reckoning.specs.Points.{any_mark};
 ghost use Rattle.reckoning.specs.Ranges.{is_range, within, range_holds, ranged, truth_range, unknown_of, range_decided, range_fits, least4, greatest4, products as products_of, divided, joined as joined_of, picked, range_computed, range_applied, overlap as overlap_of, ranges};
 ghost use Rattle.reckoning.specs.Hulls.{Tightly};
@@ -11,6 +11,7 @@ use super::certain::{equal, less, odd};
 use super::decision::Decision;
 use super::mark::{ANY, Mark};
 use super::reckoning::Reckoning;
+use terms::fits::Fits;
 use terms::kind::{Kind, Sort};
 use terms::number::{in_span, product, spans};
 use terms::operator::Operator;
@@ -62,27 +63,14 @@ fn decision(mark: Mark) -> Decision
     Decision::of(holds(mark, 1), holds(mark, 0))
 }
 
-fn fits(sort: Sort, mark: Mark) -> bool
-    ensures { result ≡ range_fits sort mark }
-{
-    let has_truth = mark.contains(0) || mark.contains(1);
-    mark.is_range() && (has_truth || sort != Sort::Of(Kind::Truth))
-}
+// An operand is a range with a number of its sort.
+impl Fits<Mark> for Ranges {
+    ghost fits = { λ _. range_fits };
 
-// Whether an operand is a range with a number of its sort.
-fn has_choice(operand: Option<(Sort, Mark)>) -> bool
-    ensures { result ≡ passes range_fits operand }
-{
-    operand.is_none_or(|(sort, mark)| fits(sort, mark))
-}
-
-fn have_choice(operator: Operator, a: Mark, b: Mark, c: Mark) -> bool
-    ensures { result ≡ operands range_fits operator a b c }
-{
-    operator
-        .sorted(a, b, c)
-        .iter()
-        .all(|&operand| has_choice(operand))
+    fn fits(&self, sort: Sort, operand: Mark) -> bool {
+        let has_truth = operand.contains(0) || operand.contains(1);
+        operand.is_range() && (has_truth || sort != Sort::Of(Kind::Truth))
+    }
 }
 
 // The result of an operator without a choice: a truth is 0 to 1 all the same.
@@ -206,7 +194,7 @@ fn computed(operator: Operator, a: Mark, b: Mark, c: Mark) -> Mark
 fn applied(operator: Operator, a: Mark, b: Mark, c: Mark) -> Mark
     ensures { result ≡ range_applied operator a b c }
 {
-    if have_choice(operator, a, b, c) {
+    if operator.takes(&Ranges, a, b, c) {
         computed(operator, a, b, c)
     } else {
         unknown(operator)

@@ -1,10 +1,13 @@
 // Every operator over small ranges and points, compared with all choices by brute force.
 
+ghost use Rattle.reckoning.specs.Kinds.{of_sort};
+
 use reckoning::mark::{ANY, Mark};
 use reckoning::points::Points;
 use reckoning::ranges::Ranges;
 use reckoning::reckoning::Reckoning;
 use std::process::Abort;
+use terms::fits::Fits;
 use terms::kind::{Kind, Sort};
 use terms::operator::Operator;
 
@@ -76,17 +79,15 @@ fn operands(operator: Operator, place: usize) -> &'static [Mark] {
     }
 }
 
-fn is_of(sort: Sort, number: i64) -> bool {
-    sort != Sort::Of(Kind::Truth) || number == 0 || number == 1
-}
+// Numbers of the sorts that their places ask for.
+struct Suited;
 
-fn is_suited(operator: Operator, numbers: [i64; 3]) -> bool {
-    let [x, y, z] = numbers;
-    operator
-        .sorted(x, y, z)
-        .iter()
-        .flatten()
-        .all(|&(sort, number)| is_of(sort, number))
+impl Fits<i64> for Suited {
+    ghost fits = { λ _. of_sort };
+
+    fn fits(&self, sort: Sort, operand: i64) -> bool {
+        sort != Sort::Of(Kind::Truth) || operand == 0 || operand == 1
+    }
 }
 
 fn widened(range: Option<Mark>, number: i64) -> Mark {
@@ -106,7 +107,7 @@ fn hull(operator: Operator, a: Mark, b: Mark, c: Mark) -> Option<Mark> {
     for x in a.low..=a.high {
         for y in b.low..=b.high {
             for z in c.low..=c.high {
-                if is_suited(operator, [x, y, z]) {
+                if operator.takes(&Suited, x, y, z) {
                     if let Some(number) = operator.compute(x, y, z) {
                         range = Some(widened(range, number));
                     }

@@ -1,4 +1,3 @@
 pub mod Table
 pub mod Wide
 pub mod Stacking
-pub mod Sorts

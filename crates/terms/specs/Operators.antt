@@ -1,7 +1,5 @@
 -- The operator table: each operator's word, the kinds of its operands and the kind of its result. Reader, kind check and evaluator all go by it.
-use Rattle.std.specs.Prelude.{ℕ, Bool, true, false, ◌&&◌, List, [], ◌∷◌, length, codes, Some, None, Option}
-use Rattle.std.specs.List.{slice_get}
-use Rattle.std.specs.Option.{option_map}
+use Rattle.std.specs.Prelude.{ℕ, Bool, true, false, ◌&&◌, List, [], ◌∷◌, length, codes, Option}
 use Rattle.terms.specs.declared.operator.Operator.{Operator}
 use Rattle.terms.specs.declared.operator.Operator.TheVariants.{Addi, Subi, Negi, Mul, Divi, Mod, Odd, Gei, Lei, Gti, Lti, Mini, Maxi, True, False, And, Or, Not, Implies, Impliedby, Notimplies, Notimpliedby, Equal, Notequal, If}
 use Rattle.terms.specs.declared.kind.Kind.TheVariants.{Number, Truth}
@@ -98,19 +96,6 @@ operands_of o = sorts (signature_of o).operands
 
 abbrev pub result_of : Operator → Sort
 result_of o = (signature_of o).result
-
--- an operand, with the sort that stands at its place
-abbrev with_sort : {X : Type 0} → List Sort → ℕ → X → Option (Sort × X)
-with_sort ss k x = option_map (λ s. (s, x)) (slice_get ss k)
-
--- of the three that an operator is given, each of its own operands with its sort
-abbrev pub sorted_by : {X : Type 0} → List Sort → X → X → X → List (Option (Sort × X))
-sorted_by ss a b c = with_sort ss 0 a ∷ with_sort ss 1 b ∷ with_sort ss 2 c ∷ []
-
--- an operand that is there passes the test of its sort
-abbrev pub passes : {X : Type 0} → (Sort → X → Bool) → Option (Sort × X) → Bool
-passes test None = true
-passes test (Some p) = test p.0 p.1
 
 -- each operand passes the test of its sort
 abbrev pub each : {X : Type 0} → (Sort → X → Bool) → List Sort → List X → Bool

@@ -1,9 +1,10 @@
 // The 25 operators: one constant table of their words and kinds, and what each computes.
 
 ghost use Rattle.std.specs.Prelude.{◌≡◌, pos};
-ghost use Rattle.terms.specs.Operators.{operator_of, signature_of, operands_of, result_of, arity as arity_of, sorted_by, truths};
+ghost use Rattle.terms.specs.Operators.{operator_of, signature_of, operands, result_of, arity as arity_of, truths};
 ghost use Rattle.terms.specs.Numbers.{spanned, computed, truth};
 
+use super::fits::Fits;
 use super::kind::{Kind, Sort};
 use super::number::{in_span, product, quotient, remainder};
 use super::word::{Entry, lookup};
@@ -159,15 +160,15 @@ impl Operator {
         }
     }
 
-    // Each operand that it takes, with its sort; `None` past its last.
-    pub fn sorted<X: Copy>(self, a: X, b: X, c: X) -> [Option<(Sort, X)>; 3]
-        ensures { result ≡ sorted_by (operands_of self) a b c }
+    // Whether each operand that it takes fits its place.
+    pub fn takes<X: Copy, F: Fits<X>>(self, test: &F, a: X, b: X, c: X) -> bool
+        ensures { result ≡ operands (F.fits test.now) self a b c }
     {
         match self.signature().operands {
-            Operands::None => [None, None, None],
-            Operands::One(s) => [Some((s, a)), None, None],
-            Operands::Two(s, t) => [Some((s, a)), Some((t, b)), None],
-            Operands::Three(s, t, u) => [Some((s, a)), Some((t, b)), Some((u, c))],
+            Operands::None => true,
+            Operands::One(s) => test.fits(s, a),
+            Operands::Two(s, t) => test.fits(s, a) && test.fits(t, b),
+            Operands::Three(s, t, u) => test.fits(s, a) && test.fits(t, b) && test.fits(u, c),
         }
     }
 
