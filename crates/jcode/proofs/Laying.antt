@@ -1,5 +1,5 @@
 -- Rows and statements that are laid out in the tables.
-use Rattle.std.proofs.Common.{◌≡◌, ℕ, ◌+◌, ◌-◌, List, ◌++◌, length, ◌≤◌, IsErrAnd, Ok, Err, Result, sym, refl, ap, ◌∙◌, arith, length-append}
+use Rattle.std.proofs.Common.{◌≡◌, ℕ, ◌+◌, ◌-◌, List, ◌++◌, length, ◌≤◌, IsErrAnd, Ok, Err, Result, sym, ap, ◌∙◌, arith, length-append}
 use Rattle.jcode.specs.declared.cursor.Cursor.{Cursor}
 use Rattle.jcode.specs.declared.refusal.ReadFault.{ReadFault}
 use Rattle.jcode.specs.declared.scope.Scope.{Scope as CodeScope}
@@ -9,15 +9,13 @@ use Rattle.jcode.specs.declared.statement.Statement.{Statement}
 use Rattle.jcode.specs.declared.statement.Statement.TheVariants as stands
 use Rattle.jcode.specs.declared.statement.Term.{Term}
 use Rattle.jcode.specs.declared.table.Table.{Table}
-use Rattle.jcode.specs.declared.statement_reader.Verb.{Verb}
-use Rattle.jcode.specs.declared.statement_reader.Verb.TheVariants as verb
-use Rattle.jcode.specs.Pieces.{Answer, got, Reader, and_then, ◌▷◌, ◌⊗◌, Reads, read_gap, read_text}
+use Rattle.jcode.specs.Pieces.{got, Reader, and_then, Reads}
 use Rattle.jcode.specs.Scopes.{Scope, listed_in, scope_of}
 use Rattle.jcode.specs.Tables.{put}
 use Rattle.jcode.specs.ReadTerms.{UnitRow, ReadsRows, held, held_with}
-use Rattle.jcode.specs.Sentences.{Sentence, Assign, Branch, rows_of, listing_of, term_at, laid}
-use Rattle.jcode.specs.ReadStatements.{ReadsTerm, Lays, laid_out, read_listing, read_listed, read_expression, read_label_end, read_branch, by_verb, listing}
-use Rattle.jcode.proofs.Chains.{off, stopped_with, told_with_of, made_of, refused_of, assoc}
+use Rattle.jcode.specs.Sentences.{Sentence, Assign, rows_of, listing_of, term_at, laid}
+use Rattle.jcode.specs.ReadStatements.{ReadsTerm, Lays, laid_out, read_listing, read_listed, read_expression, listing}
+use Rattle.jcode.proofs.Chains.{off, stopped_with, made_of, refused_of}
 use Rattle.jcode.proofs.Listings.{listed_is}
 use Rattle.jcode.proofs.Stores.{put_append, length_put, rows_read}
 
@@ -88,23 +86,3 @@ module _ (t t₁ : Table UnitRow) (e : List UnitRow) (first : held t₁ ≡ held
   assign_held f t₂ second =
       let n : (t.count + length e) + length f ≡ t.count + length (e ++ f) = simp length-append (omega arith) in
       second ∙ ap (λ p. (p.0 + length f, put p.1 p.0 f)) first ∙ (λ k. (n k, sym (put_append t.records.now t.count e f) k))
-
--- what needs no row leaves the row table as it is
-pub branch_lays : (sc : Scope) (room used : ℕ) (v : Verb) → v ≡ verb.Branch → {t : Table UnitRow} {c d : Cursor} {x : Result Statement ReadFault} → Reads read_branch c x d → Lays (by_verb sc room used v) c t x d t
-branch_lays sc room used v is {t} {c} {d} {x} h = record {
-  value =
-      told_with_of x (held t) d.at
-      ∙ ap (λ a. and_then a (λ st j. got (st, held t) j)) h.value
-      ∙ sym (assoc P (λ p i. got (stands.Branch p.0 p.1) i) (λ st j. got (st, held t) j))
-      ∙ ap (λ n. and_then P (λ p j. got (stands.Branch p.0 p.1, (n, t.records.now)) j)) none
-      ∙ assoc P (λ p i. got (Branch p.0 p.1) i) (λ s j. got (laid t.count s, held_with t (rows_of s)) j)
-      ∙ ap (λ v. laid_out t (by_verb sc room used v c.bytes.now c.at)) (sym is);
-  same = h.same;
-  lent = refl;
-}
-  where
-    P : Answer (Span × ℕ)
-    P = (read_gap ▷ (read_text ⊗ λ _. read_label_end)) c.bytes.now c.at
-
-    none : t.count ≡ t.count + 0
-    none = omega arith

@@ -6,7 +6,6 @@ use Rattle.jcode.specs.declared.refusal.Refusal.TheVariants.{Limit, Name}
 use Rattle.jcode.specs.declared.span.Span.{Span}
 use Rattle.jcode.specs.declared.statement.Listing.{Listing}
 use Rattle.jcode.specs.declared.statement.Statement.{Statement}
-use Rattle.jcode.specs.declared.statement.Statement.TheVariants as stands
 use Rattle.jcode.specs.declared.statement.Term.{Term}
 use Rattle.jcode.specs.declared.table.Table.{Table}
 use Rattle.jcode.specs.declared.statement_reader.Verb.{Verb}
@@ -107,10 +106,6 @@ by_verb sc room used verb.When = (read_gap ▷ (read_expression sc room used ⊗
 by_verb sc room used verb.Branch = (read_gap ▷ (read_text ⊗ λ _. read_label_end)) giving (λ p. Branch p.0 p.1)
 by_verb sc room used verb.Join = read_gap_label giving Join
 by_verb sc room used verb.Hang = read_end giving (λ _. Hang)
-
--- a BRANCH as its record, for which no row is needed
-abbrev pub read_branch : Reader Statement
-read_branch = (read_gap ▷ (read_text ⊗ λ _. read_label_end)) giving (λ p. stands.Branch p.0 p.1)
 
 -- a call on a cursor reads an expression into the row table
 pub record ReadsTerm (reader : Reader (List UnitRow)) (before : Cursor) (rows : Table UnitRow) (result : Result Term ReadFault) (after : Cursor) (left : Table UnitRow) : Type 0 where

@@ -54,6 +54,7 @@ fn proper(digits: &[u8], low: u32, high: u32) -> Option<u32>
 {
     let value = u32::try_from(value_of(digits)).ok()?;
     let padded = digits.len() > 1 && digits.first() == Some(&b'0');
+    // Two comparisons, since with a range's `contains` the search for the proof comes to its limits.
     (!padded && low <= value && value <= high).then_some(value)
 }
 
@@ -65,19 +66,12 @@ impl Cursor<'_> {
         self.bytes.get(self.at).copied()
     }
 
-    // The fault of what is due at the cursor.
-    pub(super) fn fault(&self, refusal: Refusal) -> ReadFault
-        ensures { result ≡ record { refusal = refusal; place = self.now.at } }
-    {
-        refusal.at(self.at)
-    }
-
     // Bytes that are one piece.
     pub(super) fn mark(&mut self, wanted: &[u8]) -> Result<(), ReadFault>
         ensures { Reads (read_mark wanted.now) self.old result self.new }
     {
         if !same_word(part(self.bytes, self.at, wanted.len()), wanted) {
-            return Err(self.fault(Refusal::Missing));
+            return Err(Refusal::Missing.at(self.at));
         }
         self.at += wanted.len();
         Ok(())
@@ -108,7 +102,7 @@ impl Cursor<'_> {
     fn pass_white(&mut self, last: u8) -> Result<(), ReadFault>
         ensures { Reads (read_white last) self.old result self.new }
     {
-        let run = self.white(last).ok_or(self.fault(Refusal::Missing))?;
+        let run = self.white(last).ok_or(Refusal::Missing.at(self.at))?;
         self.at += run;
         Ok(())
     }
@@ -139,7 +133,7 @@ impl Cursor<'_> {
         ensures { Reads read_word self.old result self.new }
     {
         if !Class::Letter.stands(self.bytes, self.at) {
-            return Err(self.fault(Refusal::Missing));
+            return Err(Refusal::Missing.at(self.at));
         }
         let word = self.run(Class::Name);
         self.at += word.length;
@@ -208,7 +202,7 @@ impl Cursor<'_> {
             length: text_run(self.bytes, self.at),
         };
         if text.length > TEXT_LIMIT {
-            return Err(self.fault(Refusal::Limit));
+            return Err(Refusal::Limit.at(self.at));
         }
         self.at += text.length;
         Ok(text)

@@ -1,6 +1,10 @@
 // Statements, with their terms as rows of the row table and their texts as spans of the bytes.
 
+ghost use Rattle.std.specs.Prelude.{◌≡◌};
+ghost use Rattle.jcode.specs.Scopes.{listed_in, pushed};
+
 use super::span::Span;
+use terms::part::part;
 
 // How many statements a unit may have.
 pub const STATEMENT_LIMIT: usize = 200;
@@ -26,6 +30,30 @@ pub struct Term {
 pub struct Listing {
     pub variables: [usize; LIST_LIMIT],
     pub count: usize,
+}
+
+impl Listing {
+    // No variable is listed. Not the derived default, of whose array a proof knows each variable and not the whole.
+    pub(super) const EMPTY: Listing = Listing {
+        variables: [0; LIST_LIMIT],
+        count: 0,
+    };
+
+    // One variable more; a full list stays as it is.
+    pub(super) fn push(&mut self, variable: usize)
+        ensures { self.new ≡ pushed self.old variable }
+    {
+        if self.count < LIST_LIMIT {
+            self.variables[self.count] = variable;
+            self.count += 1;
+        }
+    }
+
+    pub fn listed(&self) -> &[usize]
+        ensures { result.now ≡ listed_in self.now }
+    {
+        part(&self.variables, 0, self.count)
+    }
 }
 
 #[derive(Clone, Copy, Debug, Default, PartialEq, Eq)]

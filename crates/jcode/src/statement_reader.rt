@@ -7,12 +7,12 @@ ghost use Rattle.jcode.specs.Scopes.{scope_of, listed_in};
 ghost use Rattle.jcode.specs.Sentences.{verb_of};
 ghost use Rattle.jcode.specs.Tables.{full_by};
 ghost use Rattle.jcode.specs.ReadUnits.{statement_limit, read_sentence, goes_on as goes_on_unit, read_finish, LaysAll};
-ghost use Rattle.jcode.specs.ReadStatements.{read_single, read_again, read_repeated, read_target, goes_on, read_unseen, read_more_listed, read_names_listed, read_listed, read_text_end, read_label_end, read_gap_label, read_branch, read_expression, ReadsTerm, by_verb, Lays};
+ghost use Rattle.jcode.specs.ReadStatements.{read_single, read_again, read_repeated, read_target, goes_on, read_unseen, read_more_listed, read_names_listed, read_listed, read_text_end, read_label_end, read_gap_label, read_expression, ReadsTerm, by_verb, Lays};
 
 use super::cursor::Cursor;
 use super::mention::UnitRow;
 use super::refusal::{ReadFault, Refusal};
-use super::scope::{Scope, contains};
+use super::scope::Scope;
 use super::span::Span;
 use super::statement::{LIST_LIMIT, Listing, NESTING_LIMIT, STATEMENT_LIMIT, Statement, Term};
 use super::table::Table;
@@ -65,6 +65,7 @@ impl Cursor<'_> {
         Ok(text)
     }
 
+    // As for a text: one function for both, with a closure for the piece, would say no less.
     #[tactic(auto, unfolding(crate::specs::ReadStatements::read_label_end))]
     fn label_end(&mut self) -> Result<u16, ReadFault>
         ensures { Reads read_label_end self.old result self.new }
@@ -140,7 +141,7 @@ impl Cursor<'_> {
             return Err(Refusal::Limit.at(place));
         }
         let variable = self.variable(scope)?;
-        if contains(listing.listed(), variable) {
+        if listing.listed().contains(&variable) {
             return Err(Refusal::Name.at(place));
         }
         Ok(variable)
@@ -162,6 +163,7 @@ impl Cursor<'_> {
     }
 
     // Listed names, up to the closing bracket.
+    #[tactic(auto, unfolding(crate::specs::ReadStatements::read_names))]
     fn names(&mut self, scope: Scope) -> Result<Listing, ReadFault>
         ensures { Reads (read_names_listed (scope_of scope.entry)) self.old result self.new }
     {
@@ -174,6 +176,7 @@ impl Cursor<'_> {
     }
 
     // Names in brackets.
+    #[tactic(auto, unfolding(crate::specs::ReadStatements::read_listing))]
     fn listing(&mut self, scope: Scope) -> Result<Listing, ReadFault>
         ensures { Reads (read_listed (scope_of scope.entry)) self.old result self.new }
     {
@@ -267,15 +270,6 @@ impl Cursor<'_> {
         Ok(label)
     }
 
-    fn branch(&mut self) -> Result<Statement, ReadFault>
-        ensures { Reads read_branch self.old result self.new }
-    {
-        self.gap()?;
-        let text = self.text()?;
-        let label = self.label_end()?;
-        Ok(Statement::Branch { text, label })
-    }
-
     // What follows a statement's word; the rows of its terms go into the table.
     pub(super) fn statement(
         &mut self,
@@ -297,7 +291,12 @@ impl Cursor<'_> {
                 label: self.label_after_gap()?,
             }),
             Verb::When => self.when(scope, rows),
-            Verb::Branch => self.branch(),
+            Verb::Branch => {
+                self.gap()?;
+                let text = self.text()?;
+                let label = self.label_end()?;
+                Ok(Statement::Branch { text, label })
+            }
             Verb::Join => Ok(Statement::Join {
                 label: self.label_after_gap()?,
             }),

@@ -8,7 +8,7 @@ ghost use Rattle.jcode.specs.ReadTerms.{head_of, mention, by_head, known, read_v
 use super::cursor::Cursor;
 use super::mention::{Aspect, Mention, ROW_LIMIT, Stage, UnitRow};
 use super::refusal::{ReadFault, Refusal};
-use super::scope::{Scope, contains};
+use super::scope::Scope;
 use super::span::Span;
 use super::table::Table;
 use terms::operator::{Operator, find};
@@ -48,7 +48,7 @@ fn mentioned(variable: usize, aspect: Aspect, stage: Stage) -> UnitRow
     })
 }
 
-// How many operands follow a row.
+// How many operands follow a row, which is a type of terms and so has no method here.
 fn operands_after(row: UnitRow) -> usize
     ensures { result ≡ operands_after row }
 {
@@ -81,7 +81,7 @@ impl Cursor<'_> {
     {
         let place = self.at;
         let variable = self.variable(scope)?;
-        if !contains(scope.listing.listed(), variable) {
+        if !scope.listing.listed().contains(&variable) {
             return Err(Refusal::Name.at(place));
         }
         Ok(variable)
