@@ -5,8 +5,7 @@ ghost use Rattle.jcode.specs.Units.{term_in, sentence_in};
 ghost use Rattle.checking.specs.Rules.{is_truth, is_like, kinds_kept};
 ghost use Rattle.checking.specs.Types.{domains_in};
 
-use super::room::Room;
-use super::term_table::TermTable;
+use super::term_table::{Room, TermTable};
 use super::types::domain_kind;
 use jcode::statement::{Statement, Term};
 use terms::kind::Kind;

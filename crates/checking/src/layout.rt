@@ -1,9 +1,10 @@
 // The layout of the row table: the terms of all statements stand one after another, and fill it.
 
-ghost use Rattle.std.specs.Prelude.{◌≡◌, Some};
+ghost use Rattle.std.specs.Prelude.{◌≡◌, length, Some};
 ghost use Rattle.checking.specs.Layouts.{after_term, padded, after_statement, fills_from};
 
 use super::pieces::LIST_LIMIT;
+use super::tables::UnitTables;
 use jcode::statement::{Listing, Statement, Term};
 
 // The place after a term, if it stands at this place of a table with so many rows.
@@ -46,16 +47,19 @@ fn after_statement(total: usize, used: usize, statement: Statement) -> Option<us
     }
 }
 
-// Whether the statements' terms stand one after another and fill a table with so many rows.
-pub(super) fn fills(total: usize, statements: &[Statement]) -> bool
-    ensures { result ≡ fills_from total (Some 0) statements.now }
-{
-    let mut used = 0;
-    for statement in statements {
-        let Some(next) = after_statement(total, used, *statement) else {
-            return false;
-        };
-        used = next;
+impl UnitTables<'_> {
+    // Whether the statements' terms stand one after another and fill the row table.
+    pub(super) fn are_filled(&self) -> bool
+        ensures { result ≡ fills_from (length self.now.rows.now) (Some 0) self.now.statements.now }
+    {
+        let total = self.rows.len();
+        let mut used = 0;
+        for statement in self.statements {
+            let Some(next) = after_statement(total, used, *statement) else {
+                return false;
+            };
+            used = next;
+        }
+        used == total
     }
-    used == total
 }

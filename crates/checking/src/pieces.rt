@@ -3,7 +3,7 @@
 ghost use Rattle.std.specs.Prelude.{◌≡◌, nat_eq, nat_lt};
 ghost use Rattle.std.specs.List.{list_all};
 ghost use Rattle.checking.specs.Tests.{apart};
-ghost use Rattle.checking.specs.Pieces.{same_name, fits as fits_in, is_name, is_text, is_label, is_domain, is_declaration, row_known, is_list};
+ghost use Rattle.checking.specs.Pieces.{fits as fits_in, is_name, is_text, is_label, is_domain, is_declaration, row_known, is_list};
 
 use super::apart::are_apart;
 use jcode::mention::{Stage, UnitRow};
@@ -13,7 +13,6 @@ use jcode::span::Span;
 use jcode::variable::{Domain, Variable};
 use terms::number::spans;
 use terms::row::Row;
-use terms::word::same_word;
 
 // How long a name and a text may be.
 const NAME_LIMIT: usize = 32;
@@ -62,26 +61,10 @@ fn is_domain(domain: Domain) -> bool
     }
 }
 
-fn is_declaration(bytes: &[u8], variable: Variable) -> bool
+pub(super) fn is_declaration(bytes: &[u8], variable: Variable) -> bool
     ensures { result ≡ is_declaration bytes.now variable }
 {
     is_name(bytes, variable.name) && is_domain(variable.domain)
-}
-
-// Whether each variable keeps the rules of a declaration.
-pub(super) fn are_declarations(bytes: &[u8], variables: &[Variable]) -> bool
-    ensures { result ≡ list_all (is_declaration bytes.now) variables.now }
-{
-    variables.iter().all(|&v| is_declaration(bytes, v))
-}
-
-// Whether no two have one name.
-pub(super) fn have_own_names(bytes: &[u8], variables: &[Variable]) -> bool
-    ensures { result ≡ apart (same_name bytes.now) variables.now }
-{
-    are_apart(variables, |v, w| {
-        same_word(v.name.of(bytes), w.name.of(bytes))
-    })
 }
 
 // Whether a term can have this row, with so many variables, where NEW lists these.

@@ -5,8 +5,7 @@ ghost use Rattle.jcode.specs.Units.{sentence_in};
 ghost use Rattle.checking.specs.Rules.{span_kept};
 ghost use Rattle.checking.specs.Types.{domains_in};
 
-use super::room::Room;
-use super::term_table::TermTable;
+use super::term_table::{Room, TermTable};
 use jcode::statement::Statement;
 use reckoning::mark::Mark;
 

@@ -4,14 +4,13 @@ ghost use Rattle.std.specs.Prelude.{◌≡◌, ◌≤◌, length};
 ghost use Rattle.jcode.specs.ReadStatements.{nesting};
 ghost use Rattle.jcode.specs.Units.{term_in};
 ghost use Rattle.reckoning.specs.Kinds.{kind_of};
-ghost use Rattle.checking.specs.declared.room.TheConstants.{ROW_LIMIT};
+ghost use Rattle.checking.specs.declared.term_table.TheConstants.{ROW_LIMIT};
 ghost use Rattle.checking.specs.Nesting.{writes_term};
 ghost use Rattle.checking.specs.Rules.{stays_in};
 ghost use Rattle.checking.specs.Types.{domains_in, mention_kind};
 
 use super::kinding::kind_of;
 use super::nesting::writes_term;
-use super::room::Room;
 use super::term::term_rows;
 use super::types::Types;
 use jcode::mention::UnitRow;
@@ -28,8 +27,13 @@ pub(super) struct TermTable<'a> {
     ghost few: { length rows.now ≤ ROW_LIMIT },
 }
 
-// How deep a unit's term may nest.
+// How many rows a unit may have, and how deep its terms may nest.
+pub(super) const ROW_LIMIT: usize = 2_000;
+
 const NESTING_LIMIT: usize = 32;
+
+// An entry for each row of a term.
+pub(super) type Room<X> = [X; ROW_LIMIT];
 
 impl TermTable<'_> {
     pub(super) fn kind(&self, term: Term, room: &mut Room<Option<Kind>>) -> Option<Kind>
