@@ -1,6 +1,7 @@
 -- The steps of a unit, from its tables and from itself.
-use Rattle.std.proofs.Common.{◌≡◌, ℕ, zero, suc, ◌<◌, Bool, true, false, List, [], ◌∷◌, ◌++◌, map, length, get_or, refl, ap₂, arith}
+use Rattle.std.proofs.Common.{◌≡◌, ℕ, zero, suc, ◌<◌, Bool, Ok, Err, Result, List, [], ◌∷◌, ◌++◌, map, length, get_or, refl, ap₂, arith}
 use Rattle.flow.specs.declared.step.Step.{Step}
+use Rattle.flow.specs.declared.flow.Full.{Full}
 use Rattle.flow.specs.Flows.{Pushed}
 use Rattle.jcode.specs.declared.statement.Statement.{Statement}
 use Rattle.jcode.specs.declared.statement.Statement.TheVariants as stands
@@ -12,9 +13,9 @@ use Rattle.checking.specs.Breaks.{step_of}
 use Rattle.checking.specs.Rules.{kinds_kept, span_kept}
 use Rattle.checking.specs.Steps.{record_step}
 
-pub pushed_more : (u v : List Step) (s : Step) (r : Bool) → Pushed u s v r → length u < 200 → v ≡ u ++ s ∷ []
-pushed_more u v s true p lt = p.1
-pushed_more u v s false p lt = absurd (omega (arith, p.0))
+pub pushed_more : (u v : List Step) (s : Step) (r : Result (Unit {0}) Full) → Pushed u s v r → length u < 200 → v ≡ u ++ s ∷ []
+pushed_more u v s (Ok _) p lt = p.1
+pushed_more u v s (Err _) p lt = absurd (omega (arith, p.0))
 
 -- neither rows nor texts change what a statement is to the flow
 row_step : (rows : List UnitRow) (s : Statement) → record_step s ≡ step_of (sentence_in rows s)

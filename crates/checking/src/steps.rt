@@ -33,7 +33,7 @@ impl UnitTables<'_> {
     {
         let mut flow = Flow::new();
         for statement in self.statements {
-            flow.push(step_of(*statement));
+            flow.push(step_of(*statement)).unwrap();
         }
         flow
     }

@@ -1,4 +1,6 @@
-pub mod Listing
+pub mod Lowest
+pub mod Ahead
+pub mod Made
 pub mod Ordering
 pub mod Labelling
 pub mod Leading

@@ -1,22 +1,18 @@
 -- How many ways lead on from each statement, clipped.
-use Rattle.std.specs.Prelude.{◌≡◌, ℕ, ◌+◌, ◌<◌, ◌≤◌, min, Bool, true, false, ◌⊎◌, List, [], ◌∷◌, length, Some, None, Option, slice_index}
+use Rattle.std.specs.Prelude.{◌≡◌, ℕ, ◌+◌, ◌<◌, ◌≤◌, min, Bool, true, false, ◌⊎◌, List, length, sum_by, Some, slice_index}
 use Rattle.flow.specs.declared.step.Step.{Step}
+use Rattle.flow.specs.declared.counts.TheConstants.{MOST_PATHS, LIMIT}
 use Rattle.flow.specs.Steps.{OnCircle}
 use Rattle.flow.specs.Paths.{required}
 use Rattle.flow.specs.Numbers.{onward, ways_from, paths}
 
 -- the most paths that a unit may have
 abbrev pub most : ℕ
-most = 65536
+most = MOST_PATHS
 
 -- counts go up to one more
 abbrev pub limit : ℕ
-limit = 65537
-
--- the place to go on from is a statement
-abbrev pub Within : ℕ → Option ℕ → Type 0
-Within n None = Unit {0}
-Within n (Some i) = i < n
+limit = LIMIT
 
 -- the places that pass a test lie from low on and below high
 abbrev pub Enclosed : (ℕ → Bool) → ℕ → ℕ → ℕ → Type 0
@@ -24,8 +20,7 @@ Enclosed test n low high = (low ≤ n) × (high ≤ n) × ((j : ℕ) → j < n �
 
 -- what the counts at some places come to
 abbrev pub sum_at : List ℕ → List ℕ → ℕ
-sum_at counts [] = 0
-sum_at counts (j ∷ js) = slice_index counts j + sum_at counts js
+sum_at counts js = sum_by (slice_index counts) js
 
 -- a statement's count, from those of its successors
 abbrev pub ends : Bool → ℕ
@@ -36,9 +31,8 @@ abbrev pub clipped : List Step → List ℕ → ℕ → ℕ
 clipped u counts i = min (ends (required u i) + min (sum_at counts (onward u (Some i))) limit) limit
 
 -- each statement's count is that of its ways, clipped
-pub record Counted (u : List Step) (counts : List ℕ) : Type 0 where
-  pub room : length u ≤ length counts
-  pub each : (i : ℕ) → i < length u → slice_index counts i ≡ min (length (ways_from u i)) limit
+abbrev pub Counted : List Step → List ℕ → Type 0
+Counted u counts = (i : ℕ) → i < length u → slice_index counts i ≡ min (length (ways_from u i)) limit
 
 -- a circle, or more paths than a unit may have
 abbrev pub TooMany : List Step → Type 0

@@ -1,12 +1,14 @@
 -- The steps of a flow, the only thing that is said of it.
-use Rattle.std.specs.Prelude.{◌≡◌, ◌<◌, Bool, true, false, List, [], ◌∷◌, ◌++◌, length, take}
+use Rattle.std.specs.Prelude.{◌≡◌, ◌<◌, Ok, Err, Result, List, [], ◌∷◌, ◌++◌, length, take}
 use Rattle.flow.specs.declared.step.Step.{Step}
 use Rattle.flow.specs.declared.flow.Flow.{Flow}
+use Rattle.flow.specs.declared.flow.Full.{Full}
+use Rattle.flow.specs.declared.flow.TheConstants.{MOST_STEPS}
 
 abbrev pub steps_in : Flow → List Step
 steps_in f = take f.count f.steps
 
--- steps u become v: one more at the end, or at 200 none
-abbrev pub Pushed : List Step → Step → List Step → Bool → Type 0
-Pushed u s v true = (length u < 200) × (v ≡ u ++ s ∷ [])
-Pushed u s v false = (length u ≡ 200) × (v ≡ u)
+-- steps u become v: one more at the end, or none where there is no room
+abbrev pub Pushed : List Step → Step → List Step → Result (Unit {0}) Full → Type 0
+Pushed u s v (Ok _) = (length u < MOST_STEPS) × (v ≡ u ++ s ∷ [])
+Pushed u s v (Err _) = (length u ≡ MOST_STEPS) × (v ≡ u)

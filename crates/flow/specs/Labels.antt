@@ -1,5 +1,5 @@
 -- Labels: what ties SPLIT to its WHENs and BRANCH to its JOIN.
-use Rattle.std.specs.Prelude.{◌≡◌, ℕ, ◌<◌, ◌≤◌, ◌⊎◌, List, length, Some, None, Option, ◌≢◌}
+use Rattle.std.specs.Prelude.{◌≡◌, ℕ, ◌<◌, ◌⊎◌, List, length}
 use Rattle.flow.specs.declared.step.Step.{Step}
 use Rattle.flow.specs.declared.step.Step.TheVariants.{Hang, Break, Require, Plain, Split, When, Branch, Join}
 use Rattle.flow.specs.Steps.{at}
@@ -39,8 +39,3 @@ Unmatched u (Join l) = Has u (Branch l) → ⊥
 
 abbrev pub Mislabelled : List Step → ℕ → Type 0
 Mislabelled u i = Clashes u (at u i) ⊎ Unmatched u (at u i)
-
--- the first place from a place on that has s
-abbrev pub FirstFrom : List Step → Step → ℕ → Option ℕ → Type 0
-FirstFrom u s start None = (i : ℕ) → start ≤ i → i < length u → at u i ≢ s
-FirstFrom u s start (Some i) = (start ≤ i) × (i < length u) × (at u i ≡ s) × ((j : ℕ) → start ≤ j → j < i → at u j ≢ s)

@@ -1,5 +1,6 @@
 -- The list of all paths, in which a path stands at its number.
 use Rattle.std.specs.Prelude.{◌≡◌, ℕ, zero, suc, ◌<◌, Bool, true, false, cond, List, [], ◌∷◌, ◌++◌, map, length, Some, None, Option, slice_index_or}
+use Rattle.std.specs.List.{filter, flat_map, range_with_len}
 use Rattle.flow.specs.declared.step.Step.{Step}
 use Rattle.flow.specs.Steps.{at, is_break, leads}
 use Rattle.flow.specs.Paths.{Path, Before, required}
@@ -9,18 +10,9 @@ abbrev pub may : List Step → Option ℕ → ℕ → Bool
 may u None j = is_break (at u j)
 may u (Some i) j = cond (is_break (at u j)) false (leads i (at u i) j (at u j))
 
--- where it may go among the m places from a on, ascending
-abbrev pub among : List Step → Option ℕ → ℕ → ℕ → List ℕ
-among u from a zero = []
-among u from a (suc m) = cond (may u from a) (a ∷ among u from (suc a) m) (among u from (suc a) m)
-
+-- where it may go, ascending
 abbrev pub onward : List Step → Option ℕ → List ℕ
-onward u from = among u from 0 (length u)
-
--- what `on` gives at each place, one after the other
-abbrev pub gather : (ℕ → List (List ℕ)) → List ℕ → List (List ℕ)
-gather on [] = []
-gather on (j ∷ js) = on j ++ gather on js
+onward u from = filter (may u from) (range_with_len 0 (length u))
 
 -- the way that ends where it stands
 abbrev pub here : Bool → ℕ → List (List ℕ)
@@ -30,14 +22,14 @@ here false i = []
 -- the ways of at most f places from i to a target; at a target one ends, and others go on
 abbrev pub ways : (ℕ → Bool) → ℕ → List Step → ℕ → List (List ℕ)
 ways target zero u i = []
-ways target (suc f) u i = here (target i) i ++ map (λ way. i ∷ way) (gather (ways target f u) (onward u (Some i)))
+ways target (suc f) u i = here (target i) i ++ map (λ way. i ∷ way) (flat_map (ways target f u) (onward u (Some i)))
 
 -- all ways from i, and all paths; a path has no more places than there are statements
 abbrev pub ways_to : (ℕ → Bool) → List Step → ℕ → List (List ℕ)
 ways_to target u = ways target (length u) u
 
 abbrev pub paths_to : (ℕ → Bool) → List Step → List (List ℕ)
-paths_to target u = gather (ways_to target u) (onward u None)
+paths_to target u = flat_map (ways_to target u) (onward u None)
 
 abbrev pub ways_from : List Step → ℕ → List (List ℕ)
 ways_from u = ways_to (required u) u

@@ -2,7 +2,8 @@
 use Rattle.std.specs.Prelude.{◌≡◌, ℕ, ◌<◌, ◌≤◌, List, [], ◌∷◌, length, Some, None, Option, slice_index_or}
 use Rattle.flow.specs.declared.step.Step.{Step}
 use Rattle.flow.specs.declared.turn.Turn.{Turn}
-use Rattle.flow.specs.Numbers.{onward, gather, ways_from, paths, nth}
+use Rattle.std.specs.List.{flat_map}
+use Rattle.flow.specs.Numbers.{onward, ways_from, paths, nth}
 
 -- the way that a turn tells, or no place at all where there is no such way
 abbrev pub told : List Step → Turn → List ℕ
@@ -34,10 +35,5 @@ pub record Stands (u : List Step) (t : Turn) : Type 0 where
 
 -- of all ways that go on from a place, or start, the k-th is that of the turn; or there are not so many
 abbrev pub Picked : List Step → Option ℕ → ℕ → Option Turn → Type 0
-Picked u from k None = length (gather (ways_from u) (onward u from)) ≤ k
-Picked u from k (Some t) = Stands u t × (told u t ≡ slice_index_or (gather (ways_from u) (onward u from)) k []) × (k < length (gather (ways_from u) (onward u from)))
-
--- the way of a turn ends at its place, or goes on with the next turn's
-abbrev pub Went : List Step → Turn → Option Turn → Type 0
-Went u t None = told u t ≡ t.place ∷ []
-Went u t (Some next) = Stands u next × (told u t ≡ t.place ∷ told u next)
+Picked u from k None = length (flat_map (ways_from u) (onward u from)) ≤ k
+Picked u from k (Some t) = Stands u t × (told u t ≡ slice_index_or (flat_map (ways_from u) (onward u from)) k []) × (k < length (flat_map (ways_from u) (onward u from)))

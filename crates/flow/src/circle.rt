@@ -1,65 +1,64 @@
 // Circles: a statement that reaches itself.
 
-ghost use Rattle.std.specs.Prelude.{◌≡◌, ℕ, ◌<◌, ◌≤◌, true, false, ◌||◌, length, Decides};
+ghost use Rattle.std.specs.Prelude.{◌≡◌, Decides};
 ghost use Rattle.flow.specs.Flows.{steps_in};
 ghost use Rattle.flow.specs.Least.{Least};
-ghost use Rattle.flow.specs.Steps.{at, leads, OnCircle};
-ghost use Rattle.flow.specs.Circles.{Spread, Pending};
+ghost use Rattle.flow.specs.Steps.{OnCircle};
+ghost use Rattle.flow.specs.Circles.{reached as mark_reached, Spread};
 
-use super::flow::Flow;
-use super::step::Step;
-use super::successors::{candidates, goes};
+use super::flow::{Flow, MOST_STEPS};
 
-// Marks the successors of a statement as seen.
-fn spread(steps: &[Step], i: usize, seen: &mut [bool])
-    requires { (i < length steps.now) × (length steps.now ≤ length seen.old) }
-    ensures { Spread steps.now i seen.old seen.new }
-{
-    let places = candidates(steps, i);
-    for j in places.low..places.high {
-        seen[j] |= goes(steps, i, j);
-    }
+// What is known of a statement while it is found what another one reaches.
+#[derive(Clone, Copy, PartialEq, Eq)]
+enum Mark {
+    Unseen,
+    Seen,
+    Done,
 }
 
-// A statement that was seen and is not done.
-fn pending(steps: &[Step], seen: &[bool], done: &[bool]) -> Option<usize>
-    requires { (length steps.now ≤ length seen.now) × (length steps.now ≤ length done.now) }
-    ensures { Pending steps.now seen.now done.now result }
-{
-    for i in 0..steps.len() {
-        if seen[i] && !done[i] {
-            return Some(i);
+// A mark for each statement.
+type Marks = [Mark; MOST_STEPS];
+
+impl Mark {
+    // The mark of a statement where control comes to it, or doesn't.
+    fn reached(self, comes: bool) -> Mark
+        ensures { result ≡ mark_reached self comes }
+    {
+        if comes && self == Mark::Unseen {
+            Mark::Seen
+        } else {
+            self
         }
     }
-    None
-}
-
-// Whether a statement reaches itself: all that it reaches is seen, each statement's successors once.
-fn is_circular(steps: &[Step], i: usize) -> bool
-    requires { (i < length steps.now) × (length steps.now ≤ 200) }
-    ensures { Decides result (OnCircle steps.now i) }
-{
-    let mut seen = [false; 200];
-    let mut done = [false; 200];
-    spread(steps, i, &mut seen);
-    while let Some(j) = pending(steps, &seen, &done) {
-        done[j] = true;
-        spread(steps, j, &mut seen);
-    }
-    seen[i]
 }
 
 impl Flow {
+    // Marks the successors of a statement as seen.
+    fn spread(&self, i: usize, marks: &mut Marks)
+        ensures { Spread (steps_in self.now) i marks.old marks.new }
+    {
+        for j in self.candidates(i) {
+            marks[j] = marks[j].reached(self.goes(i, j));
+        }
+    }
+
+    // Whether a statement reaches itself: all that it reaches is seen, each statement's successors once.
+    fn is_circular(&self, i: usize) -> bool
+        ensures { Decides result (OnCircle (steps_in self.now) i) }
+    {
+        let mut marks = [Mark::Unseen; MOST_STEPS];
+        self.spread(i, &mut marks);
+        while let Some(j) = marks.iter().position(|&mark| mark == Mark::Seen) {
+            marks[j] = Mark::Done;
+            self.spread(j, &mut marks);
+        }
+        i < self.len() && marks[i] != Mark::Unseen
+    }
+
     // The lowest statement that reaches itself.
     pub fn circular(&self) -> Option<usize>
         ensures { Least (OnCircle (steps_in self.now)) result }
     {
-        let steps = self.listed();
-        for i in 0..steps.len() {
-            if is_circular(steps, i) {
-                return Some(i);
-            }
-        }
-        None
+        (0..self.len()).find(|&i| self.is_circular(i))
     }
 }

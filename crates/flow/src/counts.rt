@@ -1,70 +1,49 @@
 // Counts: how many ways lead on from each statement to a REQUIRE, clipped.
 
-ghost use Rattle.std.specs.Prelude.{◌≡◌, ℕ, ◌<◌, ◌≤◌, min, length, slice_index};
-ghost use Rattle.flow.specs.Numbers.{onward, paths};
-ghost use Rattle.flow.specs.Counts.{Within, sum_at, clipped, Counted};
+ghost use Rattle.std.specs.Prelude.{◌≡◌, min};
+ghost use Rattle.flow.specs.Flows.{steps_in};
+ghost use Rattle.flow.specs.Numbers.{onward};
+ghost use Rattle.flow.specs.Counts.{sum_at, clipped, Counted};
 
+use super::flow::{Flow, MOST_STEPS};
 use super::step::Step;
-use super::successors::{ahead, allowed};
+use std::array;
 
-// One more than the most paths that a unit may have: counts go no further.
-pub(super) const LIMIT: u32 = 65537;
+// The most paths that a unit may have.
+const MOST_PATHS: u32 = 65_536;
 
-// At most the limit.
-fn clip(n: u32) -> u32
-    ensures { result ≡ min n 65537 }
-{
-    if n < LIMIT { n } else { LIMIT }
-}
+// Counts go no further.
+pub(super) const LIMIT: u32 = MOST_PATHS + 1;
 
-// The counts at the places to go to from a statement, or at the start, added up.
-pub(super) fn sum(steps: &[Step], counts: &[u32], from: Option<usize>) -> u32
-    requires { (Within (length steps.now) from) × (length steps.now ≤ length counts.now) }
-    ensures { result ≡ min (sum_at counts.now (onward steps.now from)) 65537 }
-{
-    let mut sum: u32 = 0;
-    let places = ahead(steps, from);
-    for j in places.low..places.high {
-        if allowed(steps, from, j) {
-            sum = clip(sum.saturating_add(counts[j]));
+// A count for each statement; an array, so that no count can fail for want of memory.
+pub(super) type Counts = [u32; MOST_STEPS];
+
+impl Flow {
+    // The counts at the places to go to from a statement, or at the start, added up.
+    pub(super) fn sum(&self, counts: &Counts, from: Option<usize>) -> u32
+        ensures { result ≡ min (sum_at counts.now (onward (steps_in self.now) from)) LIMIT }
+    {
+        self.ahead(from)
+            .filter(|&j| self.allows(from, j))
+            .fold(0, |sum: u32, j| sum.saturating_add(counts[j]).min(LIMIT))
+    }
+
+    // A statement's count, from those of its successors.
+    fn count_of(&self, counts: &Counts, i: usize) -> u32
+        ensures { result ≡ clipped (steps_in self.now) counts.now i }
+    {
+        let here = u32::from(self.at(i) == Step::Require);
+        self.sum(counts, Some(i)).saturating_add(here).min(LIMIT)
+    }
+
+    // Where no statement reaches itself, as many sweeps as statements see each way to its end.
+    pub(super) fn counts(&self) -> Counts
+        ensures { Counted (steps_in self.now) result }
+    {
+        let mut counts = [0; MOST_STEPS];
+        for _sweep in 0..self.len() {
+            counts = array::from_fn(|i| self.count_of(&counts, i));
         }
+        counts
     }
-    sum
-}
-
-// A statement's count, from those of its successors.
-fn count_of(steps: &[Step], counts: &[u32], i: usize) -> u32
-    requires { (i < length steps.now) × (length steps.now ≤ length counts.now) }
-    ensures { result ≡ clipped steps.now counts.now i }
-{
-    let on = sum(steps, counts, Some(i));
-    if steps[i].is_require() {
-        clip(on.saturating_add(1))
-    } else {
-        clip(on)
-    }
-}
-
-// Each statement's count anew, from the old ones.
-fn sweep(steps: &[Step], old: &[u32], new: &mut [u32])
-    requires { (length steps.now ≤ length new.old) × (length steps.now ≤ length old.now) }
-    ensures { (k : ℕ) → k < length steps.now → slice_index new.new k ≡ clipped steps.now old.now k }
-{
-    for i in 0..steps.len() {
-        let count = count_of(steps, old, i);
-        new[i] = count;
-    }
-}
-
-// Where no statement reaches itself, as many sweeps as statements see each way to its end.
-pub(super) fn counts(steps: &[Step]) -> [u32; 200]
-    requires { length steps.now ≤ 200 }
-    ensures { Counted steps.now result }
-{
-    let mut counts = [0; 200];
-    for _t in 0..steps.len() {
-        let old = counts;
-        sweep(steps, &old, &mut counts);
-    }
-    counts
 }

@@ -1,10 +1,10 @@
 // Steps: what a statement is to the flow of control.
 
 ghost use Rattle.std.specs.Prelude.{◌≡◌};
-ghost use Rattle.flow.specs.Steps.{is_break, is_require, is_when, is_join, opens as opens_block, closes as closes_block};
+ghost use Rattle.flow.specs.Steps.{opens as opens_block, closes as closes_block, leads as leads_to};
 
 // A plain step only goes on to the next; labels tie the others together.
-#[derive(Clone, Copy, PartialEq, Eq)]
+#[derive(Clone, Copy, Debug, PartialEq, Eq)]
 pub enum Step {
     Hang,
     Break,
@@ -17,59 +17,29 @@ pub enum Step {
 }
 
 impl Step {
-    pub(super) fn is_break(self) -> bool
-        ensures { result ≡ is_break self }
-    {
-        match self {
-            Step::Break => true,
-            _ => false,
-        }
-    }
-
-    pub(super) fn is_require(self) -> bool
-        ensures { result ≡ is_require self }
-    {
-        match self {
-            Step::Require => true,
-            _ => false,
-        }
-    }
-
-    pub(super) fn is_when(self, label: u16) -> bool
-        ensures { result ≡ is_when label self }
-    {
-        match self {
-            Step::When(own) => own == label,
-            _ => false,
-        }
-    }
-
-    pub(super) fn is_join(self, label: u16) -> bool
-        ensures { result ≡ is_join label self }
-    {
-        match self {
-            Step::Join(own) => own == label,
-            _ => false,
-        }
-    }
-
     // Whether it opens a block, after one that was closed.
     pub(super) fn opens(self) -> bool
         ensures { result ≡ opens_block self }
     {
-        match self {
-            Step::When(_) | Step::Join(_) => true,
-            _ => false,
-        }
+        matches!(self, Step::When(_) | Step::Join(_))
     }
 
     // Whether it closes its block.
     pub(super) fn closes(self) -> bool
         ensures { result ≡ closes_block self }
     {
+        matches!(self, Step::Split(_) | Step::Branch(_) | Step::Hang)
+    }
+
+    // Whether control goes on from this step, at place `i`, to a step at place `j`.
+    pub(super) fn leads(self, i: usize, to: Step, j: usize) -> bool
+        ensures { result ≡ leads_to i self j to }
+    {
         match self {
-            Step::Split(_) | Step::Branch(_) | Step::Hang => true,
-            _ => false,
+            Step::Hang => false,
+            Step::Split(label) => to == Step::When(label),
+            Step::Branch(label) => to == Step::Join(label),
+            _ => i.checked_add(1) == Some(j),
         }
     }
 }
