@@ -1,10 +1,10 @@
 -- What a call reads after others, and what it refuses.
-use Rattle.std.proofs.Common.{◌≡◌, ℕ, List, IsErrAnd, Ok, Err, Result, refl, ap, ◌∙◌}
+use Rattle.std.proofs.Common.{◌≡◌, ℕ, List, IsErrAnd, Ok, Err, Result, refl, ap, ◌∙◌, arith}
 use Rattle.std.proofs.lemmas.Result.{err_from_is_err_and}
 use Rattle.jcode.specs.declared.cursor.Cursor.{Cursor}
 use Rattle.jcode.specs.declared.refusal.ReadFault.{ReadFault}
 use Rattle.jcode.specs.Pieces.{Answer, got, refused, Reader, and_then, ◌▷◌, ◌◁◌, ◌⊗◌, ◌giving◌, told, Reads}
-use Rattle.jcode.specs.ReadTerms.{told_rows}
+use Rattle.jcode.specs.ReadTerms.{told_with, leaves}
 
 -- on from what was read, and no further than what was refused
 pub on : {A B : Type 0} {o : Answer A} {a : A} {i : ℕ} {x : Answer B} (f : A → ℕ → Answer B) → got a i ≡ o → x ≡ f a i → x ≡ and_then o f
@@ -17,8 +17,26 @@ off f e = ap (λ o. and_then o f) e
 pub stopped : {A : Type 0} {y : ReadFault} (r : Result A ReadFault) (j : ℕ) → IsErrAnd r (λ z. z ≡ y) → told r j ≡ refused y
 stopped r j h = let p = err_from_is_err_and r h in ap (λ q. told q j) p.1 ∙ ap refused p.2
 
-pub stopped_rows : {A X : Type 0} {y : ReadFault} (r : Result A ReadFault) (rows : X) (j : ℕ) → IsErrAnd r (λ z. z ≡ y) → told_rows r rows j ≡ refused y
-stopped_rows r rows j h = let p = err_from_is_err_and r h in ap (λ q. told_rows q rows j) p.1 ∙ ap refused p.2
+pub stopped_with : {A X : Type 0} {y : ReadFault} (r : Result A ReadFault) (left : X) (j : ℕ) → IsErrAnd r (λ z. z ≡ y) → told_with r left j ≡ refused y
+stopped_with r left j h = let p = err_from_is_err_and r h in ap (λ q. told_with q left j) p.1 ∙ ap refused p.2
+
+pub stopped_leaves : {A X : Type 0} {y : ReadFault} (r : Result A ReadFault) (left : X) (j : ℕ) → IsErrAnd r (λ z. z ≡ y) → leaves r left j ≡ refused y
+stopped_leaves r left j h = let p = err_from_is_err_and r h in ap (λ q. leaves q left j) p.1 ∙ ap refused p.2
+
+-- what a last call leaves
+pub leaves_of : {A X : Type 0} (r : Result A ReadFault) (left : X) (j : ℕ) → leaves r left j ≡ and_then (told r j) (λ _ k. got left k)
+leaves_of (Ok a) left j = refl
+leaves_of (Err y) left j = refl
+
+-- what was read, where what became of it is told
+module _ {A B : Type 0} (f : A → B) {b : B} {j : ℕ} where
+  pub made_of : (o : Answer A) → got b j ≡ and_then o (λ a i. got (f a) i) → (a : A) × (got a j ≡ o) × (b ≡ f a)
+  made_of (got a i) e = (a, (let h : j ≡ i = cc in ap (got a) h), cc)
+  made_of (refused y) e = let z : ◌≡◌ {A = ℕ} 0 1 = cc in absurd (omega arith)
+
+pub refused_of : {A B : Type 0} (f : A → B) {y : ReadFault} (o : Answer A) → refused y ≡ and_then o (λ a i. got (f a) i) → refused y ≡ o
+refused_of f (got a i) e = let z : ◌≡◌ {A = ℕ} 0 1 = cc in absurd (omega arith)
+refused_of f (refused y) e = cc
 
 -- a reading in bytes that are the same
 module _ {A : Type 0} {r : Reader A} {c d : Cursor} {bytes : List ℕ} (s : c.bytes.now ≡ bytes) where
@@ -37,10 +55,6 @@ reads_after {q = q} {d = d} h k = record { value = on _ h.value (k.value ∙ (λ
 
 pub refuses : {A B : Type 0} {r : Reader A} {c d : Cursor} {y : ReadFault} (k : A → Reader B) → Reads r c (Err y) d → Reads (λ bytes at. and_then (r bytes at) (λ a i. k a bytes i)) c (Err y) d
 refuses {c = c} k h = record { value = off (λ a i. k a c.bytes.now i) h.value; same = h.same }
-
--- what a `?` returns
-pub exits : {A : Type 0} {r : Reader A} {c d : Cursor} {y : ReadFault} (x : Result A ReadFault) → IsErrAnd x (λ z. z ≡ y) → Reads r c (Err y) d → Reads r c x d
-exits {d = d} x e h = record { value = stopped x d.at e ∙ h.value; same = h.same }
 
 pub reads_before : {A : Type 0} {r : Reader A} {q : Reader (Unit {0})} {c d e : Cursor} {a : A} {u : Unit {0}} → Reads r c (Ok a) d → Reads q d (Ok u) e → Reads (r ◁ q) c (Ok a) e
 reads_before {q = q} {c = c} {d = d} {a = a} h k = record {
@@ -72,10 +86,3 @@ reads_giving f h = record { value = on (λ a i. got (f a) i) h.value refl; same 
 pub assoc : {A B C : Type 0} (o : Answer A) (f : A → ℕ → Answer B) (g : B → ℕ → Answer C) → and_then o (λ a i. and_then (f a i) g) ≡ and_then (and_then o f) g
 assoc (got a i) f g = refl
 assoc (refused y) f g = refl
-
--- a reader by another that reads the same
-pub reads_as : {A : Type 0} {r : Reader A} (q : Reader A) {c d : Cursor} {x : Result A ReadFault} → ((bytes : List ℕ) (at : ℕ) → r bytes at ≡ q bytes at) → Reads r c x d → Reads q c x d
-reads_as q {c = c} e h = record { value = h.value ∙ e c.bytes.now c.at; same = h.same }
-
-pub reads_then : {A B : Type 0} {r : Reader A} {c d e : Cursor} {a : A} {x : Result B ReadFault} (k : A → Reader B) → Reads r c (Ok a) d → Reads (k a) d x e → Reads (λ bytes at. and_then (r bytes at) (λ a i. k a bytes i)) c x e
-reads_then {c = c} k h q = record { value = on (λ a i. k a c.bytes.now i) h.value (told_in h.same q); same = q.same ∙ h.same }

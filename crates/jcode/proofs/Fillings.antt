@@ -1,6 +1,7 @@
 -- Tables that are filled from their front, one record more at a time.
-use Rattle.std.proofs.Common.{◌≡◌, ℕ, ◌+◌, ◌<◌, ◌≤◌, List, [], ◌∷◌, ◌++◌, length, get_or, take, drop, set, replicate, sym, refl, ap, ◌∙◌, arith}
-use Rattle.std.proofs.lemmas.List.{take_more_set, length-take, take_at, set_at, drop_more, drop_all, append_assoc, append-nil, length_push, length-replicate, replicate_more}
+use Rattle.std.proofs.Common.{◌≡◌, ℕ, ◌+◌, ◌<◌, ◌≤◌, List, [], ◌∷◌, ◌++◌, length, take, drop, set, sym, refl, ap, ◌∙◌, arith}
+use Rattle.std.proofs.lemmas.List.{take_more_set, length-take, take_at, set_at, append_assoc, length_push}
+use Rattle.jcode.specs.declared.table.Table.{Table}
 use Rattle.jcode.specs.Tables.{put}
 use Rattle.jcode.specs.ReadUnits.{over}
 use Rattle.jcode.proofs.Stores.{put_append}
@@ -14,17 +15,13 @@ module _ {X : Type 0} (table filled : List X) (count : ℕ) (x : X) (room : coun
       let n : count ≡ 0 + length (take count filled) = omega (arith, length-take count filled) in
       (λ k. set (e k) (n k) x) ∙ sym (put_append table 0 (take count filled) (x ∷ [])) ∙ ap (put table 0) (sym seen_more)
 
--- blank records from the front on
-pub blank_more : {X : Type 0} (table filled : List X) (x : X) (i : ℕ) → i < length table → filled ≡ replicate i x ++ drop i table → set filled i x ≡ replicate (i + 1) x ++ drop (i + 1) table
-blank_more table filled x i h e =
-    let l = length-replicate i x in
-    ap (λ ys. set ys i x) (e ∙ ap (λ ys. replicate i x ++ ys) (drop_more table i x h))
-    ∙ set_at (replicate i x) (get_or table i x) (drop (i + 1) table) x i l
-    ∙ sym (append_assoc (replicate i x) (x ∷ []) (drop (i + 1) table))
-    ∙ ap (λ ys. ys ++ drop (i + 1) table) (replicate_more i x)
+-- a table with one record more
+module _ {X : Type 0} (table : List X) (t t' : Table X) (x : X) (room : t.count < length t.records.now) (pushed : t'.records.now ≡ set t.records.now t.count x) (one : t'.count ≡ t.count + 1) where
+  pub seen_push : take t'.count t'.records.now ≡ take t.count t.records.now ++ x ∷ []
+  seen_push = (λ k. take (one k) (pushed k)) ∙ seen_more table t.records.now t.count x room
 
-pub blank_all : {X : Type 0} (table filled : List X) (x : X) (i : ℕ) → i ≡ length table → filled ≡ replicate i x ++ drop i table → filled ≡ replicate (length table) x
-blank_all table filled x i h e = e ∙ (λ k. replicate (h k) x ++ drop_all i table (omega arith) k) ∙ append-nil (replicate (length table) x)
+  pub filled_push : t.records.now ≡ put table 0 (take t.count t.records.now) → t'.records.now ≡ put table 0 (take t'.count t'.records.now)
+  filled_push e = pushed ∙ filled_more table t.records.now t.count x room e ∙ sym (λ k. put table 0 (take (one k) (pushed k)))
 
 -- records put at the front leave the old rest
 put_after : {X : Type 0} (front rest ys : List X) → length ys ≤ length rest → put (front ++ rest) (length front) ys ≡ front ++ over ys rest

@@ -1,7 +1,5 @@
-pub mod Slices
-pub mod Runs
-pub mod Values
 pub mod Names
+pub mod Values
 pub mod Stores
 pub mod Chains
 pub mod Repeats
@@ -9,6 +7,5 @@ pub mod Listings
 pub mod Laying
 pub mod Fillings
 pub mod Declarations
-pub mod Rooms
 pub mod Statements
 pub mod Units

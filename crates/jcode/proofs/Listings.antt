@@ -1,17 +1,17 @@
 -- Lists of names, one name more at a time.
-use Rattle.std.proofs.Common.{◌≡◌, ℕ, suc, ◌+◌, ◌-◌, ◌<◌, Bool, true, false, leb, List, [], ◌∷◌, ◌++◌, length, get_or, set, replicate, Ok, Err, Result, sym, refl, ap, ◌∙◌, arith}
+use Rattle.std.proofs.Common.{◌≡◌, ℕ, suc, ◌+◌, ◌-◌, ◌<◌, Bool, true, false, leb, List, [], ◌∷◌, ◌++◌, length, set, replicate, Ok, Err, sym, refl, ap, ◌∙◌, arith}
 use Rattle.std.proofs.lemmas.List.{set_at, append_assoc, length_push, take_at}
-use Rattle.std.proofs.lemmas.Bool.{cond-true, cond-false, eq-eqb, ne_eqb, lt-ltb, leb-false}
+use Rattle.std.proofs.lemmas.Bool.{cond-true, lt-ltb, leb-false}
 use Rattle.jcode.specs.declared.cursor.Cursor.{Cursor}
 use Rattle.jcode.specs.declared.refusal.ReadFault.{ReadFault}
 use Rattle.jcode.specs.declared.statement.Listing.{Listing}
-use Rattle.jcode.specs.Pieces.{Answer, got, refused, Reader, and_then, ◌▷◌, ◌giving◌, read_gap, read_may_gap, read_byte, read_name, Reads}
+use Rattle.jcode.specs.Pieces.{Answer, got, refused, Reader, and_then, ◌▷◌, ◌giving◌, read_gap, read_name, Reads}
 use Rattle.jcode.specs.Scopes.{Scope, listed_in, pushed}
-use Rattle.jcode.specs.ReadTerms.{read_close, read_variable}
+use Rattle.jcode.specs.ReadTerms.{read_close}
 use Rattle.jcode.specs.Sentences.{listing_of}
-use Rattle.jcode.specs.ReadStatements.{goes_on, read_unseen, read_more, read_more_listed, read_names, read_names_listed, read_listing, read_listed}
+use Rattle.jcode.specs.ReadStatements.{goes_on, read_unseen, read_more}
 use Rattle.jcode.proofs.Repeats.{step_refused, step_read, all_done}
-use Rattle.jcode.proofs.Chains.{on, off, read_in, refused_in, reads_after, assoc, reads_as}
+use Rattle.jcode.proofs.Chains.{on, off, read_in, refused_in, reads_after}
 
 pub listed_is : (vs : List ℕ) → listed_in (listing_of vs) ≡ vs
 listed_is vs = take_at vs (replicate (8 - length vs) 0) (length vs) refl
@@ -81,26 +81,3 @@ module _ (sc : Scope) (l : Listing) (bytes : List ℕ) (whole : Answer (List ℕ
 
     pub list_unclosed : {d : Cursor} {y : ReadFault} → Reads read_close c (Err y) d → refused y ≡ whole
     list_unclosed h = off (λ _ j. got (listed_in l) j) (refused_in same h) ∙ all_done goes_on step done 8 l.count (listed_in l) bytes c.at whole goal closes
-
--- from the first name on
-pub names_none : (sc : Scope) (bytes : List ℕ) (at : ℕ) → get_or bytes at 0 ≡ 41 → got (listing_of []) (at + 1) ≡ read_names_listed sc bytes at
-unfolding read_names
-names_none sc bytes at e = sym (ap (λ a. and_then a (λ vs j. got (listing_of vs) j)) (cond-true _ (got [] (at + 1)) (and_then (read_variable sc bytes at) (λ v j. read_more sc 7 (v ∷ []) bytes j)) (eq-eqb (get_or bytes at 0) 41 e)))
-
-names_are : (sc : Scope) (bytes : List ℕ) (at : ℕ) → (get_or bytes at 0 ≡ 41 → ⊥) → and_then (read_variable sc bytes at) (λ v j. read_more_listed sc v bytes j) ≡ read_names_listed sc bytes at
-unfolding read_names
-names_are sc bytes at n =
-    assoc (read_variable sc bytes at) (λ v j. read_more sc 7 (v ∷ []) bytes j) (λ vs j. got (listing_of vs) j)
-    ∙ sym (ap (λ a. and_then a (λ vs j. got (listing_of vs) j)) (cond-false _ (got [] (at + 1)) (and_then (read_variable sc bytes at) (λ v j. read_more sc 7 (v ∷ []) bytes j)) (ne_eqb (get_or bytes at 0) 41 n)))
-
-pub names_some : (sc : Scope) (c d : Cursor) (x : Result Listing ReadFault) → (get_or c.bytes.now c.at 0 ≡ 41 → ⊥) → Reads (λ bytes at. and_then (read_variable sc bytes at) (λ v j. read_more_listed sc v bytes j)) c x d → Reads (read_names_listed sc) c x d
-names_some sc c d x n h = record { value = h.value ∙ names_are sc c.bytes.now c.at n; same = h.same }
-
-pub listed_as : (sc : Scope) {c d : Cursor} {x : Result Listing ReadFault} → Reads (read_byte 40 ▷ (read_may_gap ▷ read_names_listed sc)) c x d → Reads (read_listed sc) c x d
-unfolding read_listing
-listed_as sc h =
-    reads_as (read_listed sc)
-    (λ bytes at.
-    ap (and_then (read_byte 40 bytes at)) (λ k _ i. assoc (read_may_gap bytes i) (λ _ j. read_names sc bytes j) (λ vs j. got (listing_of vs) j) k)
-    ∙ assoc (read_byte 40 bytes at) (λ _ i. and_then (read_may_gap bytes i) (λ _ j. read_names sc bytes j)) (λ vs j. got (listing_of vs) j))
-    h

@@ -1,5 +1,8 @@
 -- Classes of bytes, the longest front of a list whose bytes are all of one class, and parts of a list.
-use Rattle.std.specs.Prelude.{ℕ, ◌+◌, Bool, cond, not, ◌&&◌, ◌||◌, List, [], ◌∷◌, length, take, drop, ◌==◌, nat_le, slice_index}
+use Rattle.std.specs.Prelude.{ℕ, ◌-◌, Bool, false, not, ◌&&◌, ◌||◌, List, length, take, drop, codes, ◌==◌, nat_eq, nat_le, Some, slice_get, take_while}
+use Rattle.std.specs.List.{list_all, range_with_len}
+use Rattle.std.specs.Option.{option_eq, option_map_or}
+use Rattle.terms.specs.Words.{same_word}
 use Rattle.jcode.specs.declared.class.Class.{Class}
 use Rattle.jcode.specs.declared.class.Class.TheVariants.{Separator, Letter, Digit, Name, Text}
 use Rattle.jcode.specs.declared.span.Span.{Span}
@@ -31,32 +34,37 @@ in_class Digit = digit
 in_class Name = name_byte
 in_class Text = text_byte
 
--- how many bytes at the front pass the test
-abbrev pub run : (ℕ → Bool) → List ℕ → ℕ
-run p [] = 0
-run p (b ∷ s) = cond (p b) (1 + run p s) 0
-
--- the list begins with `/)`
-abbrev pub closes : List ℕ → Bool
-closes s = slice_index s 0 == 47 && slice_index s 1 == 41
-
--- how many bytes at the front are a text's, up to the first `/)`
-abbrev pub text_run : List ℕ → ℕ
-text_run [] = 0
-text_run (b ∷ s) = cond (text_byte b && not (closes (b ∷ s))) (1 + text_run s) 0
-
--- a letter, and nothing after it that no name may have
-abbrev pub is_word : List ℕ → Bool
-is_word s = letter (slice_index s 0) && run name_byte s == length s
-
--- bytes that may all stand in a text, with no `/)` among them
-abbrev pub is_text : List ℕ → Bool
-is_text s = text_run s == length s
-
--- a text goes on at a place: a byte of a text stands there, and no `/)`
-abbrev pub text_at : List ℕ → ℕ → Bool
-text_at bytes i = text_byte (slice_index bytes i) && not (slice_index bytes i == 47 && slice_index bytes (i + 1) == 41)
-
 -- the bytes of a span
 abbrev pub slice : List ℕ → Span → List ℕ
 slice bytes s = take s.length (drop s.start bytes)
+
+-- whether this is the byte at a place, and whether the byte there is of a class
+abbrev pub stands : ℕ → List ℕ → ℕ → Bool
+stands b bytes at = option_eq nat_eq (slice_get bytes at) (Some b)
+
+abbrev pub passes : (ℕ → Bool) → List ℕ → ℕ → Bool
+passes p bytes at = option_map_or p (slice_get bytes at) false
+
+-- so many bytes from a place on
+abbrev pub from : ℕ → ℕ → Span
+from at n = record { start = at; length = n }
+
+-- the longest run of a class at a place
+abbrev pub run_at : (ℕ → Bool) → List ℕ → ℕ → Span
+run_at p bytes at = from at (length (take_while p (drop at bytes)))
+
+-- a text goes on at a place: a byte of a text stands there, and no `/)`
+abbrev pub text_at : List ℕ → ℕ → Bool
+text_at bytes i = passes text_byte bytes i && not (same_word (take 2 (drop i bytes)) (codes "/)"))
+
+-- the bytes of a text at a place, up to the first `/)`
+abbrev pub text_run : List ℕ → ℕ → Span
+text_run bytes at = from at (length (take_while (text_at bytes) (range_with_len at (length bytes - at))))
+
+-- a letter, and nothing after it that no name may have
+abbrev pub is_word : List ℕ → Bool
+is_word s = passes letter s 0 && list_all name_byte s
+
+-- bytes that may all stand in a text, with no `/)` among them
+abbrev pub is_text : List ℕ → Bool
+is_text s = (text_run s 0).length == length s

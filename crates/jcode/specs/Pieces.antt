@@ -1,12 +1,14 @@
 -- The pieces of the notation: what is read at a place of the bytes and the next place, or the refusal and its place.
-use Rattle.std.specs.Prelude.{◌≡◌, ℕ, zero, suc, ◌+◌, ◌-◌, ◌*◌, Bool, true, false, cond, not, ◌&&◌, List, [], ◌∷◌, ◌++◌, drop, ℤ, pos, neg_ℤ, Ok, Err, Result, ◌==◌, nat_le, nat_lt, slice_index}
+use Rattle.std.specs.Prelude.{◌≡◌, ℕ, zero, suc, ◌+◌, ◌-◌, ◌*◌, Bool, true, false, cond, not, ◌&&◌, List, [], ◌∷◌, ◌++◌, take, drop, length, ℤ, pos, neg_ℤ, Some, None, Ok, Err, Option, Result, codes, ◌==◌, nat_eq, nat_le, nat_lt, slice_get, unwrap_or, fold}
+use Rattle.std.specs.Bool.{then_some}
+use Rattle.std.specs.Option.{option_eq}
 use Rattle.terms.specs.Words.{same_word}
 use Rattle.jcode.specs.declared.cursor.Cursor.{Cursor}
 use Rattle.jcode.specs.declared.refusal.ReadFault.{ReadFault}
 use Rattle.jcode.specs.declared.refusal.Refusal.{Refusal}
 use Rattle.jcode.specs.declared.refusal.Refusal.TheVariants.{Missing, Number, Limit}
 use Rattle.jcode.specs.declared.span.Span.{Span}
-use Rattle.jcode.specs.Bytes.{separator, letter, digit, name_byte, run, text_run, slice}
+use Rattle.jcode.specs.Bytes.{separator, letter, digit, name_byte, stands, passes, run_at, text_run, slice}
 
 pub data Answer (A : Type 0) : Type 0 where
   got : A → ℕ → Answer A
@@ -50,19 +52,23 @@ repeated more step done (suc left) seen bytes at =
     (and_then (step false seen bytes at) (λ a j. repeated more step done left (seen ++ a ∷ []) bytes j))
     (done seen bytes at)
 
--- the place after the longest run of a class
-abbrev pub past : (ℕ → Bool) → List ℕ → ℕ → ℕ
-past p bytes at = at + run p (drop at bytes)
+-- bytes that are one piece, as `(` and `(/`
+abbrev pub read_mark : List ℕ → Reader (Unit {0})
+read_mark w bytes at = cond (same_word (take (length w) (drop at bytes)) w) (got tt (at + length w)) (refuse Missing at)
 
-abbrev pub read_byte : ℕ → Reader (Unit {0})
-read_byte b bytes at = cond (slice_index bytes at == b) (got tt (at + 1)) (refuse Missing at)
+-- how many separators stand at a place, if the last of them is this one
+abbrev pub ends_in : ℕ → List ℕ → Bool
+ends_in b s = option_eq nat_eq (slice_get s (length s - 1)) (Some b)
 
--- how many separators stand at a place, if the last of them is this one, else none
-abbrev pub white_run : ℕ → List ℕ → ℕ → ℕ
-white_run last bytes at = cond (slice_index bytes (past separator bytes at - 1) == last) (run separator (drop at bytes)) 0
+abbrev pub white : ℕ → List ℕ → ℕ → Option ℕ
+white last bytes at = then_some (ends_in last (slice bytes (run_at separator bytes at))) (run_at separator bytes at).length
+
+abbrev passed : ℕ → Option ℕ → Answer (Unit {0})
+passed at None = refuse Missing at
+passed at (Some n) = got tt (at + n)
 
 abbrev pub read_white : ℕ → Reader (Unit {0})
-read_white last bytes at = cond (white_run last bytes at == 0) (refuse Missing at) (got tt (at + white_run last bytes at))
+read_white last bytes at = passed at (white last bytes at)
 
 abbrev pub read_gap : Reader (Unit {0})
 read_gap = read_white 32
@@ -70,16 +76,17 @@ read_gap = read_white 32
 abbrev pub read_end : Reader (Unit {0})
 read_end = read_white 10
 
-abbrev pub read_may_gap : Reader (Unit {0})
-read_may_gap bytes at = got tt (at + white_run 32 bytes at)
+-- the place after a gap, if one stands at a place
+abbrev pub past_gap : List ℕ → ℕ → ℕ
+past_gap bytes at = at + unwrap_or (white 32 bytes at) 0
 
-abbrev from : ℕ → ℕ → Span
-from at n = record { start = at; length = n }
+abbrev pub read_may_gap : Reader (Unit {0})
+read_may_gap bytes at = got tt (past_gap bytes at)
 
 -- a letter and all that may follow it in a name
 abbrev pub read_word : Reader Span
 read_word bytes at =
-    cond (letter (slice_index bytes at)) (got (from at (run name_byte (drop at bytes))) (past name_byte bytes at)) (refuse Missing at)
+    cond (passes letter bytes at) (got (run_at name_byte bytes at) (at + (run_at name_byte bytes at).length)) (refuse Missing at)
 
 abbrev short : Span → ℕ → Answer Span
 short s j = cond (nat_lt 32 s.length) (refuse Limit s.start) (got s j)
@@ -92,25 +99,25 @@ read_keyword k bytes at = and_then (read_word bytes at) (λ s j. cond (same_word
 
 -- the number that digits write, after digits that write n
 abbrev pub value_after : ℕ → List ℕ → ℕ
-value_after n [] = n
-value_after n (b ∷ s) = value_after (n * 10 + (b - 48)) s
+value_after n s = fold (λ v b. v * 10 + (b - 48)) n s
 
--- the longest run of digits at a place
-abbrev pub digits_at : List ℕ → ℕ → Span
-digits_at bytes at = from at (run digit (drop at bytes))
+-- the number that digits write, if it lies from low to high and no zero stands in front
+abbrev pub is_proper : ℕ → ℕ → List ℕ → ℕ → Bool
+is_proper low high s n = not (nat_lt 1 (length s) && option_eq nat_eq (slice_get s 0) (Some 48)) && (nat_le low n && nat_le n high)
 
--- so many digits, of which this is the first, write n: a number from low to high with no zero in front
-abbrev pub proper : ℕ → ℕ → ℕ → ℕ → ℕ → Bool
-proper low high first count n = not (first == 48 && nat_lt 1 count) && (nat_le low n && nat_le n high)
+abbrev pub proper : List ℕ → ℕ → ℕ → Option ℕ
+proper s low high = then_some (is_proper low high s (value_after 0 s)) (value_after 0 s)
+
+abbrev numbered : ℕ → ℕ → Option ℕ → Answer ℕ
+numbered place next None = refuse Number place
+numbered place next (Some n) = got n next
 
 -- digits that write a number from low to high; a fault is laid at the number's own place
 abbrev pub read_decimal : ℕ → ℕ → ℕ → Reader ℕ
 read_decimal place low high bytes at =
-    cond (run digit (drop at bytes) == 0)
+    cond ((run_at digit bytes at).length == 0)
     (refuse Missing place)
-    (cond (proper low high (slice_index bytes at) (run digit (drop at bytes)) (value_after 0 (slice bytes (digits_at bytes at))))
-    (got (value_after 0 (slice bytes (digits_at bytes at))) (past digit bytes at))
-    (refuse Number place))
+    (numbered place (at + (run_at digit bytes at).length) (proper (slice bytes (run_at digit bytes at)) low high))
 
 -- the span's greatest magnitude
 abbrev pub greatest : ℕ
@@ -118,23 +125,19 @@ greatest = 2000000000
 
 abbrev pub read_number : Reader ℤ
 read_number bytes at =
-    cond (slice_index bytes at == 45)
+    cond (stands 45 bytes at)
     ((read_decimal at 1 greatest giving (λ n. neg_ℤ (pos n))) bytes (at + 1))
     ((read_decimal at 0 greatest giving pos) bytes at)
 
 abbrev pub read_label : Reader ℕ
 read_label bytes at = read_decimal at 1 9999 bytes at
 
--- two bytes that are one piece, as `(/` and `/)`
-abbrev pub read_pair : ℕ → ℕ → Reader (Unit {0})
-read_pair a b bytes at = cond (slice_index bytes at == a && slice_index bytes (at + 1) == b) (got tt (at + 2)) (refuse Missing at)
-
 abbrev pub read_inner : Reader Span
 read_inner bytes at =
-    cond (nat_lt 80 (text_run (drop at bytes))) (refuse Limit at) (got (from at (text_run (drop at bytes))) (at + text_run (drop at bytes)))
+    cond (nat_lt 80 (text_run bytes at).length) (refuse Limit at) (got (text_run bytes at) (at + (text_run bytes at).length))
 
 abbrev pub read_text : Reader Span
-read_text = read_pair 40 47 ▷ (read_inner ◁ read_pair 47 41)
+read_text = read_mark (codes "(/") ▷ (read_inner ◁ read_mark (codes "/)"))
 
 abbrev pub told : {A : Type 0} → Result A ReadFault → ℕ → Answer A
 told (Ok a) j = got a j

@@ -1,19 +1,19 @@
 -- Statements: how they are read.
-use Rattle.std.specs.Prelude.{◌≡◌, ℕ, ◌+◌, Bool, cond, not, List, [], ◌∷◌, length, Result, ◌==◌, slice_index}
+use Rattle.std.specs.Prelude.{◌≡◌, ℕ, ◌+◌, Bool, cond, not, List, [], ◌∷◌, length, Result, codes, ◌==◌}
 use Rattle.jcode.specs.declared.cursor.Cursor.{Cursor}
 use Rattle.jcode.specs.declared.refusal.ReadFault.{ReadFault}
 use Rattle.jcode.specs.declared.refusal.Refusal.TheVariants.{Limit, Name}
 use Rattle.jcode.specs.declared.span.Span.{Span}
 use Rattle.jcode.specs.declared.statement.Listing.{Listing}
 use Rattle.jcode.specs.declared.statement.Statement.{Statement}
-use Rattle.jcode.specs.declared.statement.Statement.TheVariants as stands
 use Rattle.jcode.specs.declared.statement.Term.{Term}
+use Rattle.jcode.specs.declared.table.Table.{Table}
 use Rattle.jcode.specs.declared.statement_reader.Verb.{Verb}
 use Rattle.jcode.specs.declared.statement_reader.Verb.TheVariants as verb
-use Rattle.jcode.specs.Pieces.{Answer, got, Reader, refuse, and_then, ◌▷◌, ◌◁◌, ◌⊗◌, ◌giving◌, repeated, white_run, read_byte, read_gap, read_end, read_may_gap, read_name, read_label, read_text}
+use Rattle.jcode.specs.Bytes.{stands}
+use Rattle.jcode.specs.Pieces.{Answer, got, Reader, refuse, and_then, ◌▷◌, ◌◁◌, ◌⊗◌, ◌giving◌, repeated, past_gap, read_mark, read_gap, read_end, read_may_gap, read_name, read_label, read_text}
 use Rattle.jcode.specs.Scopes.{Scope, member}
-use Rattle.jcode.specs.Tables.{put}
-use Rattle.jcode.specs.ReadTerms.{UnitRow, told_rows, read_variable, read_close, read_term}
+use Rattle.jcode.specs.ReadTerms.{UnitRow, held, held_with, told_with, read_variable, read_close, read_term}
 use Rattle.jcode.specs.Sentences.{Sentence, Hang, Break, Require, Proclaim, New, Assign, Split, When, Branch, Join, rows_of, listing_of, term_at, laid}
 
 abbrev pub nesting : ℕ
@@ -24,7 +24,7 @@ abbrev pub read_expression : Scope → ℕ → ℕ → Reader (List UnitRow)
 read_expression sc room used = read_term sc room nesting used
 
 abbrev pub read_bracketed : {A : Type 0} → Reader A → Reader A
-read_bracketed r = read_byte 40 ▷ (read_may_gap ▷ (r ◁ read_close))
+read_bracketed r = read_mark (codes "(") ▷ (read_may_gap ▷ (r ◁ read_close))
 
 -- a name in brackets
 unfoldable pub read_single : Scope → Reader ℕ
@@ -35,7 +35,7 @@ unfoldable pub read_again : Scope → ℕ → Reader (Unit {0})
 read_again sc v bytes at = and_then (read_variable sc bytes at) (λ u j. cond (u == v) (got tt j) (refuse Name at))
 
 unfoldable pub read_repeated : Scope → ℕ → Reader (Unit {0})
-read_repeated sc v = read_may_gap ▷ (read_byte 40 ▷ (read_may_gap ▷ (read_again sc v ▷ read_close)))
+read_repeated sc v = read_may_gap ▷ (read_mark (codes "(") ▷ (read_may_gap ▷ (read_again sc v ▷ read_close)))
 
 -- ASSIGN's variable, listed and repeated
 abbrev pub read_target : Scope → Reader ℕ
@@ -43,7 +43,7 @@ read_target sc = (read_single sc ⊗ read_repeated sc) giving (λ p. p.0)
 
 -- whether no closing bracket stands here, perhaps after a gap
 abbrev pub goes_on : List ℕ → ℕ → Bool
-goes_on bytes at = not (slice_index bytes (at + white_run 32 bytes at) == 41)
+goes_on bytes at = not (stands 41 bytes (past_gap bytes at))
 
 -- a variable for a list that may be full, and holds those seen
 unfoldable pub read_unseen : Scope → Bool → List ℕ → Reader ℕ
@@ -58,13 +58,13 @@ read_more sc = repeated goes_on (λ full seen. read_gap ▷ read_unseen sc full 
 
 unfoldable pub read_names : Scope → Reader (List ℕ)
 read_names sc bytes at =
-    cond (slice_index bytes at == 41)
+    cond (stands 41 bytes at)
     (got [] (at + 1))
     (and_then (read_variable sc bytes at) (λ v j. read_more sc 7 (v ∷ []) bytes j))
 
 -- names in brackets, at most 8, none twice
 unfoldable pub read_listing : Scope → Reader (List ℕ)
-read_listing sc = read_byte 40 ▷ (read_may_gap ▷ read_names sc)
+read_listing sc = read_mark (codes "(") ▷ (read_may_gap ▷ read_names sc)
 
 -- the listed names as their record: after the first, from the first on, and from the opening bracket on
 abbrev pub read_more_listed : Scope → ℕ → Reader Listing
@@ -107,20 +107,18 @@ by_verb sc room used verb.Branch = (read_gap ▷ (read_text ⊗ λ _. read_label
 by_verb sc room used verb.Join = read_gap_label giving Join
 by_verb sc room used verb.Hang = read_end giving (λ _. Hang)
 
--- a BRANCH as its record, for which no row is needed
-abbrev pub read_branch : Reader Statement
-read_branch = (read_gap ▷ (read_text ⊗ λ _. read_label_end)) giving (λ p. stands.Branch p.0 p.1)
-
 -- a call on a cursor reads an expression into the row table
-pub record ReadsTerm (reader : Reader (List UnitRow)) (used : ℕ) (before : Cursor) (rows : List UnitRow) (result : Result Term ReadFault) (after : Cursor) (written : List UnitRow) : Type 0 where
-  pub value : told_rows result written after.at ≡ and_then (reader before.bytes.now before.at) (λ e j. got (term_at used e, put rows used e) j)
+pub record ReadsTerm (reader : Reader (List UnitRow)) (before : Cursor) (rows : Table UnitRow) (result : Result Term ReadFault) (after : Cursor) (left : Table UnitRow) : Type 0 where
+  pub value : told_with result (held left) after.at ≡ and_then (reader before.bytes.now before.at) (λ e j. got (term_at rows.count e, held_with rows e) j)
   pub same : after.bytes.now ≡ before.bytes.now
+  pub lent : left.records.ghost_name ≡ rows.records.ghost_name
 
 -- a statement that is read goes into the tables: its record, and its rows after those that are used
-abbrev pub laid_out : ℕ → List UnitRow → Answer (Sentence Span) → Answer (Statement × List UnitRow)
-laid_out used rows a = and_then a (λ s j. got (laid used s, put rows used (rows_of s)) j)
+abbrev pub laid_out : Table UnitRow → Answer (Sentence Span) → Answer (Statement × (ℕ × List UnitRow))
+laid_out rows a = and_then a (λ s j. got (laid rows.count s, held_with rows (rows_of s)) j)
 
 -- a call on a cursor reads a statement and lays out its rows
-pub record Lays (reader : Reader (Sentence Span)) (used : ℕ) (before : Cursor) (rows : List UnitRow) (result : Result Statement ReadFault) (after : Cursor) (written : List UnitRow) : Type 0 where
-  pub value : told_rows result written after.at ≡ laid_out used rows (reader before.bytes.now before.at)
+pub record Lays (reader : Reader (Sentence Span)) (before : Cursor) (rows : Table UnitRow) (result : Result Statement ReadFault) (after : Cursor) (left : Table UnitRow) : Type 0 where
+  pub value : told_with result (held left) after.at ≡ laid_out rows (reader before.bytes.now before.at)
   pub same : after.bytes.now ≡ before.bytes.now
+  pub lent : left.records.ghost_name ≡ rows.records.ghost_name

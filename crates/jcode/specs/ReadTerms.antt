@@ -1,5 +1,5 @@
 -- Terms: how they are read.
-use Rattle.std.specs.Prelude.{◌≡◌, ℕ, zero, suc, ◌+◌, Bool, true, false, cond, List, [], ◌∷◌, ◌++◌, length, Some, None, Ok, Err, codes, Option, Result, ◌==◌, nat_le, slice_index}
+use Rattle.std.specs.Prelude.{◌≡◌, ℕ, zero, suc, ◌+◌, Bool, true, false, cond, List, [], ◌∷◌, ◌++◌, length, Some, None, Ok, Err, codes, Option, Result, ◌==◌, nat_le}
 use Rattle.terms.specs.declared.operator.Operator.{Operator}
 use Rattle.terms.specs.declared.row.Row.{Row}
 use Rattle.terms.specs.declared.row.Row.TheVariants.{Constant, Mention as Mentioned, Operator as Applied}
@@ -14,10 +14,11 @@ use Rattle.jcode.specs.declared.mention.Stage.TheVariants.{Current, New}
 use Rattle.jcode.specs.declared.refusal.ReadFault.{ReadFault}
 use Rattle.jcode.specs.declared.refusal.Refusal.TheVariants.{Missing, Limit, Table, Name}
 use Rattle.jcode.specs.declared.span.Span.{Span}
+use Rattle.jcode.specs.declared.table.Table.{Table as CodeTable}
 use Rattle.jcode.specs.declared.term_reader.Head.{Head}
 use Rattle.jcode.specs.declared.term_reader.Head.TheVariants.{Constant as ConstantHead, Defined, New as NewHead, Operator as OperatorHead}
-use Rattle.jcode.specs.Bytes.{slice}
-use Rattle.jcode.specs.Pieces.{Answer, got, refused, Reader, refuse, and_then, ◌▷◌, ◌giving◌, read_byte, read_gap, read_may_gap, read_name, read_number}
+use Rattle.jcode.specs.Bytes.{slice, stands}
+use Rattle.jcode.specs.Pieces.{Answer, got, refused, Reader, refuse, and_then, ◌▷◌, ◌giving◌, read_mark, read_gap, read_may_gap, read_name, read_number}
 use Rattle.jcode.specs.Scopes.{Scope, index_of, member}
 use Rattle.jcode.specs.Tables.{put}
 
@@ -57,26 +58,29 @@ mention a s v = Mentioned (record { variable = v; aspect = a; stage = s })
 abbrev pub read_defined : Scope → Reader UnitRow
 read_defined sc bytes at =
     and_then (read_name bytes at) (λ s j.
-    cond (slice_index bytes j == 33)
+    cond (stands 33 bytes j)
     (cond (same_word (slice bytes s) (codes "new"))
     ((read_gap ▷ (read_listed sc giving mention Shadow New)) bytes (j + 1))
     (refuse Missing at))
     (and_then (known sc bytes s j) (λ v k. got (mention Shadow Current v) k)))
 
 -- what follows a word and its `!`, up to the operands
-abbrev pub by_head : Scope → ℕ → Option Head → Reader UnitRow
-by_head sc at (Some ConstantHead) = read_gap ▷ (read_number giving Constant)
-by_head sc at (Some Defined) = read_gap ▷ read_defined sc
-by_head sc at (Some NewHead) = read_gap ▷ (read_listed sc giving mention Value New)
-by_head sc at (Some (OperatorHead o)) = λ bytes i. got (Applied o) i
-by_head sc at None = λ bytes i. refuse Name at
+abbrev pub by_head : Scope → Head → Reader UnitRow
+by_head sc ConstantHead = read_gap ▷ (read_number giving Constant)
+by_head sc Defined = read_gap ▷ read_defined sc
+by_head sc NewHead = read_gap ▷ (read_listed sc giving mention Value New)
+by_head sc (OperatorHead o) = λ bytes i. got (Applied o) i
+
+abbrev pub by_head_found : Scope → ℕ → Option Head → Reader UnitRow
+by_head_found sc at (Some h) bytes i = by_head sc h bytes i
+by_head_found sc at None bytes i = refuse Name at
 
 -- the row that a term begins with
 abbrev pub read_row : Scope → Reader UnitRow
 read_row sc bytes at =
     and_then (read_name bytes at) (λ s j.
-    cond (slice_index bytes j == 33)
-    (by_head sc at (head_of (slice bytes s)) bytes (j + 1))
+    cond (stands 33 bytes j)
+    (by_head_found sc at (head_of (slice bytes s)) bytes (j + 1))
     (and_then (known sc bytes s j) (λ v k. got (mention Value Current v) k)))
 
 -- how many operands follow a row
@@ -91,7 +95,7 @@ row_limit = 2000
 -- a term's opening bracket, with the limits that its row can pass: so much nesting is left, so many rows stand before it, the table has this room
 abbrev pub read_open : ℕ → ℕ → ℕ → Reader (Unit {0})
 read_open left room used bytes at =
-    and_then (read_byte 40 bytes at) (λ _ i.
+    and_then (read_mark (codes "(") bytes at) (λ _ i.
     cond (left == 0) (refuse Limit at) (cond (nat_le row_limit used) (refuse Limit at) (cond (nat_le room used) (refuse Table at) (got tt i))))
 
 -- a term up to its operands
@@ -100,7 +104,7 @@ read_begin sc left room used = read_open left room used ▷ (read_may_gap ▷ re
 
 -- a closing bracket, perhaps after a gap
 unfoldable pub read_close : Reader (Unit {0})
-read_close = read_may_gap ▷ read_byte 41
+read_close = read_may_gap ▷ read_mark (codes ")")
 
 -- a gap that must stand, or one that may
 abbrev pub read_lead : Bool → Reader (Unit {0})
@@ -126,16 +130,29 @@ abbrev pub read_term : Scope → ℕ → ℕ → ℕ → Reader (List UnitRow)
 read_term sc room zero used = read_begin sc zero room used giving (λ r. r ∷ [])
 read_term sc room (suc k) used = read_whole (read_begin sc (suc k) room used) (read_term sc room k) used
 
--- what a call that writes a table tells, with the table
-abbrev pub told_rows : {A X : Type 0} → Result A ReadFault → X → ℕ → Answer (A × X)
-told_rows (Ok a) rows j = got (a, rows) j
-told_rows (Err f) rows j = refused f
+-- how many records a table has, and its slice
+abbrev pub held : {X : Type 0} → CodeTable X → ℕ × List X
+held t = (t.count, t.records.now)
+
+-- the same with these records after its own
+abbrev pub held_with : {X : Type 0} → CodeTable X → List X → ℕ × List X
+held_with t xs = (t.count + length xs, put t.records.now t.count xs)
+
+-- what a call that writes a table tells, with what it leaves there, and what it leaves alone
+abbrev pub told_with : {A X : Type 0} → Result A ReadFault → X → ℕ → Answer (A × X)
+told_with (Ok a) left j = got (a, left) j
+told_with (Err f) left j = refused f
+
+abbrev pub leaves : {A X : Type 0} → Result A ReadFault → X → ℕ → Answer X
+leaves (Ok a) left j = got left j
+leaves (Err f) left j = refused f
 
 -- rows that are read go into the table, after those that are used
 abbrev pub stored : List UnitRow → ℕ → Answer (List UnitRow) → Answer (ℕ × List UnitRow)
 stored rows used a = and_then a (λ rs j. got (used + length rs, put rows used rs) j)
 
 -- a call on a cursor reads rows into the table
-pub record ReadsRows (reader : Reader (List UnitRow)) (used : ℕ) (before : Cursor) (rows : List UnitRow) (result : Result ℕ ReadFault) (after : Cursor) (written : List UnitRow) : Type 0 where
-  pub value : told_rows result written after.at ≡ stored rows used (reader before.bytes.now before.at)
+pub record ReadsRows (reader : Reader (List UnitRow)) (before : Cursor) (rows : CodeTable UnitRow) (result : Result (Unit {0}) ReadFault) (after : Cursor) (left : CodeTable UnitRow) : Type 0 where
+  pub value : leaves result (held left) after.at ≡ stored rows.records.now rows.count (reader before.bytes.now before.at)
   pub same : after.bytes.now ≡ before.bytes.now
+  pub lent : left.records.ghost_name ≡ rows.records.ghost_name

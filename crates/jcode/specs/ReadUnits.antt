@@ -1,5 +1,6 @@
 -- Declarations and units: how they are read.
-use Rattle.std.specs.Prelude.{◌≡◌, ℕ, ◌+◌, min, Bool, false, cond, not, List, [], ◌∷◌, ◌++◌, map, length, drop, replicate, ℤ, pos, Some, None, Ok, Err, codes, Option, Result, ◌==◌, int_le, nat_lt, slice_index}
+use Rattle.std.specs.Prelude.{◌≡◌, ℕ, ◌+◌, min, Bool, false, cond, not, List, [], ◌∷◌, ◌++◌, map, length, drop, replicate, ℤ, pos, Some, None, Ok, Err, codes, Option, Result, int_le}
+use Rattle.std.specs.List.{list_any}
 use Rattle.terms.specs.declared.row.Row.TheVariants.{Constant}
 use Rattle.terms.specs.Words.{same_word, first_with}
 use Rattle.jcode.specs.declared.declaration_reader.DomainWord.{DomainWord}
@@ -8,20 +9,20 @@ use Rattle.jcode.specs.declared.cursor.Cursor.{Cursor}
 use Rattle.jcode.specs.declared.reader.Outline.{Outline}
 use Rattle.jcode.specs.declared.refusal.ReadFault.{ReadFault}
 use Rattle.jcode.specs.declared.refusal.Refusal.{Refusal}
-use Rattle.jcode.specs.declared.refusal.Refusal.TheVariants.{Missing, Number, Limit, Table, Name}
+use Rattle.jcode.specs.declared.refusal.Refusal.TheVariants.{Missing, Number, Name}
 use Rattle.jcode.specs.declared.span.Span.{Span}
 use Rattle.jcode.specs.declared.statement.Statement.{Statement}
 use Rattle.jcode.specs.declared.statement.Statement.TheVariants as stands
-use Rattle.jcode.specs.declared.statement_reader.Counts.{Counts}
 use Rattle.jcode.specs.declared.statement_reader.Verb.{Verb}
+use Rattle.jcode.specs.declared.table.Table.{Table}
 use Rattle.jcode.specs.declared.variable.Domain.{Domain}
 use Rattle.jcode.specs.declared.variable.Domain.TheVariants as domain
 use Rattle.jcode.specs.declared.variable.Variable.{Variable}
-use Rattle.jcode.specs.Bytes.{slice}
-use Rattle.jcode.specs.Pieces.{Answer, got, refused, Reader, refuse, and_then, ◌▷◌, ◌◁◌, ◌⊗◌, ◌giving◌, repeated, white_run, read_byte, read_gap, read_end, read_may_gap, read_word, read_name, read_keyword, read_number}
-use Rattle.jcode.specs.Scopes.{Scope, index_of, name_in}
-use Rattle.jcode.specs.Tables.{put}
-use Rattle.jcode.specs.ReadTerms.{UnitRow, told_rows, read_close}
+use Rattle.jcode.specs.Bytes.{slice, stands}
+use Rattle.jcode.specs.Pieces.{Answer, got, refused, Reader, refuse, and_then, ◌▷◌, ◌◁◌, ◌⊗◌, ◌giving◌, repeated, past_gap, read_mark, read_gap, read_end, read_may_gap, read_word, read_name, read_keyword, read_number}
+use Rattle.jcode.specs.Scopes.{Scope, name_in}
+use Rattle.jcode.specs.Tables.{put, full_by}
+use Rattle.jcode.specs.ReadTerms.{UnitRow, held, leaves, read_close}
 use Rattle.jcode.specs.Sentences.{Sentence, rows_of, laid, verb_of}
 use Rattle.jcode.specs.ReadStatements.{by_verb}
 
@@ -51,10 +52,10 @@ read_domain bytes at = and_then (read_word bytes at) (λ s j. by_domain at (doma
 
 -- `: (variable (`
 unfoldable pub read_colon : Reader (Unit {0})
-read_colon = read_may_gap ▷ (read_byte 58 ▷ (read_may_gap ▷ read_byte 40))
+read_colon = read_may_gap ▷ (read_mark (codes ":") ▷ (read_may_gap ▷ read_mark (codes "(")))
 
 unfoldable pub read_class : Reader (Unit {0})
-read_class = read_may_gap ▷ (read_keyword (codes "variable") ▷ (read_may_gap ▷ (read_byte 40 ▷ read_may_gap)))
+read_class = read_may_gap ▷ (read_keyword (codes "variable") ▷ (read_may_gap ▷ (read_mark (codes "(") ▷ read_may_gap)))
 
 -- `))` and the end
 unfoldable pub read_closing : Reader (Unit {0})
@@ -66,19 +67,15 @@ read_declared = read_colon ▷ (read_class ▷ (read_domain ◁ read_closing))
 
 -- whether a word stands here that a colon follows, perhaps after a gap
 abbrev colon_after : List ℕ → Answer Span → Bool
-colon_after bytes (got s j) = slice_index bytes (j + white_run 32 bytes j) == 58
+colon_after bytes (got s j) = stands 58 bytes (past_gap bytes j)
 colon_after bytes (refused f) = false
 
 abbrev pub opens_declaration : List ℕ → ℕ → Bool
 opens_declaration bytes at = colon_after bytes (read_word bytes at)
 
-abbrev fresh : ℕ → Span → Option ℕ → ℕ → Answer Span
-fresh at s None j = got s j
-fresh at s (Some v) j = refuse Name at
-
 -- a name that none of these variables has
 unfoldable pub read_fresh : List Variable → Reader Span
-read_fresh seen bytes at = and_then (read_name bytes at) (λ s j. fresh at s (index_of (slice bytes s) (map (name_in bytes) seen)) j)
+read_fresh seen bytes at = and_then (read_name bytes at) (λ s j. cond (list_any (λ v. same_word (slice bytes s) (name_in bytes v)) seen) (refuse Name at) (got s j))
 
 abbrev pub read_declaration : List Variable → Reader Variable
 read_declaration seen = (read_fresh seen ⊗ λ _. read_declared) giving (λ p. record { name = p.0; domain = p.1 })
@@ -87,10 +84,6 @@ read_declaration seen = (read_fresh seen ⊗ λ _. read_declared) giving (λ p. 
 unfoldable pub read_entry : Refusal → Bool → List Variable → Reader Variable
 read_entry r full seen bytes at = cond full (and_then (read_name bytes at) (λ s j. refuse r at)) (read_declaration seen bytes at)
 
--- one record more than a table of this length can take passes the limit, or the table is too short
-abbrev pub full_by : ℕ → ℕ → Refusal
-full_by table limit = cond (nat_lt table limit) Table Limit
-
 abbrev pub variable_limit : ℕ
 variable_limit = 32
 
@@ -98,9 +91,10 @@ abbrev pub read_declarations : ℕ → ℕ → List Variable → Reader (List Va
 read_declarations table = repeated opens_declaration (read_entry (full_by table variable_limit)) (λ seen bytes at. got seen at)
 
 -- a call on a cursor reads records into the front of a table
-pub record Fills {X : Type 0} (reader : Reader (List X)) (before : Cursor) (table : List X) (result : Result ℕ ReadFault) (after : Cursor) (written : List X) : Type 0 where
-  pub value : told_rows result written after.at ≡ and_then (reader before.bytes.now before.at) (λ xs j. got (length xs, put table 0 xs) j)
+pub record Fills {X : Type 0} (reader : Reader (List X)) (before : Cursor) (table : Table X) (result : Result (Unit {0}) ReadFault) (after : Cursor) (left : Table X) : Type 0 where
+  pub value : leaves result (held left) after.at ≡ and_then (reader before.bytes.now before.at) (λ xs j. got (length xs, put table.records.now 0 xs) j)
   pub same : after.bytes.now ≡ before.bytes.now
+  pub lent : left.records.ghost_name ≡ table.records.ghost_name
 
 abbrev is_word : List ℕ → List ℕ → Answer Span → Bool
 is_word bytes w (got s j) = same_word (slice bytes s) w
@@ -138,19 +132,18 @@ abbrev pub read_statements : Scope → ℕ → ℕ → ℕ → List (Sentence Sp
 read_statements sc room table =
     repeated goes_on (λ full seen. read_sentence sc room (full_by table statement_limit) full (length (rows_all seen))) (λ seen. read_finish giving (λ _. seen))
 
-abbrev pub both : List Statement → List UnitRow → List Statement × List UnitRow
-both statements rows = (statements, rows)
-
--- what statements leave: how many there are and how many rows, and both tables
-abbrev pub laid_in : List Statement → List UnitRow → List (Sentence Span) → Counts × (List Statement × List UnitRow)
-laid_in statements rows ss = (record { statements = length ss; rows = length (rows_all ss) }, both (put statements 0 (laid_all 0 ss)) (put rows 0 (rows_all ss)))
+-- what statements leave in both tables: how many records there are, and the slice
+abbrev pub laid_in : List Statement → List UnitRow → List (Sentence Span) → (ℕ × List Statement) × (ℕ × List UnitRow)
+laid_in statements rows ss = ((length ss, put statements 0 (laid_all 0 ss)), (length (rows_all ss), put rows 0 (rows_all ss)))
 
 -- a call on a cursor reads statements into the front of their table, and their rows into the front of the row table
-pub record LaysAll (sc : Scope) (before : Cursor) (statements : List Statement) (rows : List UnitRow) (result : Result Counts ReadFault) (after : Cursor) (laid_out : List Statement) (written : List UnitRow) : Type 0 where
+pub record LaysAll (sc : Scope) (before : Cursor) (statements : Table Statement) (rows : Table UnitRow) (result : Result (Unit {0}) ReadFault) (after : Cursor) (statements_left : Table Statement) (rows_left : Table UnitRow) : Type 0 where
   pub value :
-      told_rows result (both laid_out written) after.at
-      ≡ and_then (read_statements sc (length rows) (length statements) (min (length statements) statement_limit) [] before.bytes.now before.at) (λ ss j. got (laid_in statements rows ss) j)
+      leaves result (held statements_left, held rows_left) after.at
+      ≡ and_then (read_statements sc (length rows.records.now) (length statements.records.now) (min (length statements.records.now) statement_limit) [] before.bytes.now before.at) (λ ss j. got (laid_in statements.records.now rows.records.now ss) j)
   pub same : after.bytes.now ≡ before.bytes.now
+  pub statements_lent : statements_left.records.ghost_name ≡ statements.records.ghost_name
+  pub rows_lent : rows_left.records.ghost_name ≡ rows.records.ghost_name
 
 -- a unit as it is read, with names and texts where they stand in the bytes
 pub record Located : Type 0 where

@@ -1,5 +1,6 @@
 -- What a term can mention: the names that are declared, and the variables that NEW lists.
-use Rattle.std.specs.Prelude.{ℕ, ◌+◌, Bool, false, cond, ◌||◌, List, [], ◌∷◌, map, take, Some, None, Option, ◌==◌, nat_lt, slice_set}
+use Rattle.std.specs.Prelude.{ℕ, ◌+◌, Bool, cond, List, map, take, Option, nat_eq, nat_lt, position, slice_set}
+use Rattle.std.specs.List.{list_any}
 use Rattle.terms.specs.Words.{same_word}
 use Rattle.jcode.specs.declared.scope.Scope.{Scope as CodeScope}
 use Rattle.jcode.specs.declared.statement.Listing.{Listing}
@@ -11,16 +12,11 @@ pub record Scope : Type 0 where
   pub listed : List ℕ
 
 abbrev pub member : ℕ → List ℕ → Bool
-member v [] = false
-member v (x ∷ xs) = x == v || member v xs
+member v xs = list_any (λ x. nat_eq x v) xs
 
--- the number of the first name that is this one, where names are numbered from i on
-abbrev pub index_from : ℕ → List ℕ → List (List ℕ) → Option ℕ
-index_from i w [] = None
-index_from i w (x ∷ xs) = cond (same_word w x) (Some i) (index_from (i + 1) w xs)
-
+-- the number of the first name that is this one
 abbrev pub index_of : List ℕ → List (List ℕ) → Option ℕ
-index_of w names = index_from 0 w names
+index_of w names = position (same_word w) names
 
 -- the name of a variable, in the bytes
 abbrev pub name_in : List ℕ → Variable → List ℕ

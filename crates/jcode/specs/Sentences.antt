@@ -1,5 +1,5 @@
 -- Statements as they are written, each with its terms as lists of rows, and how they stand in the tables.
-use Rattle.std.specs.Prelude.{ℕ, ◌+◌, ◌-◌, ◌^◌, min, List, [], ◌∷◌, ◌++◌, length, replicate, codes, Option}
+use Rattle.std.specs.Prelude.{ℕ, ◌+◌, ◌-◌, List, [], ◌∷◌, ◌++◌, length, replicate, codes, Option}
 use Rattle.terms.specs.Words.{first_with}
 use Rattle.jcode.specs.declared.span.Span.{Span}
 use Rattle.jcode.specs.declared.statement.Listing.{Listing}
@@ -75,16 +75,3 @@ verbs = verb.Break ∷ verb.Require ∷ verb.Proclaim ∷ verb.New ∷ verb.Assi
 -- the statement that a word opens
 abbrev pub verb_of : List ℕ → Option Verb
 verb_of w = first_with verb_word w verbs
-
--- how many rows its terms have, as far as that can be told
-abbrev pub row_count : Statement → ℕ
-row_count stands.Hang = 0
-row_count (stands.Break t) = 0
-row_count (stands.Require e t) = e.rows
-row_count (stands.Proclaim e) = e.rows
-row_count (stands.New vs e t) = e.rows
-row_count (stands.Assign v e f) = min (e.rows + f.rows) (2 ^ 64 - 1)
-row_count (stands.Split l) = 0
-row_count (stands.When e l) = e.rows
-row_count (stands.Branch t l) = 0
-row_count (stands.Join l) = 0

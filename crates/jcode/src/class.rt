@@ -1,9 +1,10 @@
 // Classes of bytes.
 
-ghost use Rattle.std.specs.Prelude.{◌≡◌};
-ghost use Rattle.jcode.specs.Bytes.{in_class};
+ghost use Rattle.std.specs.Prelude.{◌≡◌, ◌+◌, ◌<◌, ◌≤◌, length, drop, take_while};
+ghost use Rattle.std.specs.List.{list_all};
+ghost use Rattle.jcode.specs.Bytes.{in_class, passes};
 
-#[derive(Clone, Copy)]
+#[derive(Clone, Copy, Debug, PartialEq, Eq)]
 pub(super) enum Class {
     Separator,
     Letter,
@@ -25,5 +26,31 @@ impl Class {
             (_, b'.' | b'_' | b'~') if matches!(self, Class::Name) => true,
             _ => false,
         }
+    }
+
+    // Whether a byte of the class stands at a place.
+    pub(super) fn stands(self, bytes: &[u8], at: usize) -> bool
+        ensures { result ≡ passes (in_class self) bytes.now at }
+    {
+        bytes.get(at).is_some_and(|&byte| self.contains(byte))
+    }
+
+    // Whether all these bytes are of the class.
+    pub(super) fn fills(self, bytes: &[u8]) -> bool
+        ensures { result ≡ list_all (in_class self) bytes.now }
+    {
+        bytes.iter().all(|&byte| self.contains(byte))
+    }
+
+    // How many bytes of the class stand from `start` on.
+    pub(super) fn run(self, bytes: &[u8], start: usize) -> usize
+        ensures value { result ≡ length (take_while (in_class self) (drop start bytes.now)) }
+        ensures within { 0 < result → start + result ≤ length bytes.now }
+    {
+        bytes
+            .iter()
+            .skip(start)
+            .take_while(|&&byte| self.contains(byte))
+            .count()
     }
 }

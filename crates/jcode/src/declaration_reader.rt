@@ -1,31 +1,19 @@
 // Reading declarations into the variable table.
 
-ghost use Rattle.std.specs.Prelude.{◌≡◌, ◌<◌, ◌≤◌, min, [], length, take, IfOk, OnOk, nat_le};
+ghost use Rattle.std.specs.Prelude.{◌≡◌, ◌<◌, ◌≤◌, min, [], length, take, OnOk, nat_le};
 ghost use Rattle.jcode.specs.Pieces.{Reads};
-ghost use Rattle.jcode.specs.ReadUnits.{domain_of, read_high, read_bounds, read_domain, read_colon, read_class, read_closing, read_declared, opens_declaration, read_fresh, read_declaration, read_entry, full_by, read_declarations, Fills};
+ghost use Rattle.jcode.specs.ReadUnits.{domain_of, read_high, read_bounds, read_domain, read_colon, read_class, read_closing, read_declared, opens_declaration, read_fresh, read_declaration, read_entry, variable_limit, read_declarations, Fills};
+ghost use Rattle.jcode.specs.Tables.{full_by};
 
 use super::cursor::Cursor;
 use super::refusal::{ReadFault, Refusal};
-use super::scope::find_name;
 use super::span::Span;
-use super::variable::{Domain, Variable};
+use super::table::Table;
+use super::variable::{Domain, VARIABLE_LIMIT, Variable, is_taken};
 use terms::word::{Entry, lookup};
 
-const VARIABLE_LIMIT: usize = 32;
-
-// What refuses one record more than a table of this length can take.
-pub(super) fn full_by(table: usize, limit: usize) -> Refusal
-    ensures { result ≡ full_by table limit }
-{
-    if table < limit {
-        Refusal::Table
-    } else {
-        Refusal::Limit
-    }
-}
-
 // The word of a variable's type.
-#[derive(Clone, Copy)]
+#[derive(Clone, Copy, Debug, PartialEq, Eq)]
 pub(super) enum DomainWord {
     Integer,
     Boolean,
@@ -38,25 +26,29 @@ static DOMAINS: [Entry<DomainWord>; 3] = [
     Entry(b"subrange", DomainWord::Subrange),
 ];
 
-fn find_domain(word: &[u8]) -> Option<DomainWord>
-    ensures { result ≡ domain_of word.now }
-{
-    lookup(word, &DOMAINS)
+impl DomainWord {
+    fn find(word: &[u8]) -> Option<DomainWord>
+        ensures { result ≡ domain_of word.now }
+    {
+        lookup(word, &DOMAINS)
+    }
 }
 
 impl Cursor<'_> {
     // A high bound, not below the low one.
+    #[tactic(auto, unfolding(crate::specs::ReadUnits::read_high))]
     fn high(&mut self, low: i64) -> Result<Domain, ReadFault>
         ensures { Reads (read_high low) self.old result self.new }
     {
-        let fault = self.fault(Refusal::Number);
+        let place = self.at;
         let high = self.number()?;
         if low > high {
-            return Err(fault);
+            return Err(Refusal::Number.at(place));
         }
         Ok(Domain::Subrange { low, high })
     }
 
+    #[tactic(auto, unfolding(crate::specs::ReadUnits::read_bounds))]
     fn bounds(&mut self) -> Result<Domain, ReadFault>
         ensures { Reads read_bounds self.old result self.new }
     {
@@ -66,39 +58,42 @@ impl Cursor<'_> {
         self.high(low)
     }
 
+    #[tactic(auto, unfolding(crate::specs::ReadUnits::read_domain))]
     fn domain(&mut self) -> Result<Domain, ReadFault>
         ensures { Reads read_domain self.old result self.new }
     {
-        let fault = self.fault(Refusal::Missing);
+        let place = self.at;
         let word = self.word()?;
-        match find_domain(word.of(self.bytes)) {
-            Some(DomainWord::Integer) => Ok(Domain::Integer),
-            Some(DomainWord::Boolean) => Ok(Domain::Boolean),
-            Some(DomainWord::Subrange) => self.bounds(),
-            None => Err(fault),
+        match DomainWord::find(word.of(self.bytes)).ok_or(Refusal::Missing.at(place))? {
+            DomainWord::Integer => Ok(Domain::Integer),
+            DomainWord::Boolean => Ok(Domain::Boolean),
+            DomainWord::Subrange => self.bounds(),
         }
     }
 
+    #[tactic(auto, unfolding(crate::specs::ReadUnits::read_colon))]
     fn colon(&mut self) -> Result<(), ReadFault>
         ensures { Reads read_colon self.old result self.new }
     {
         self.may_gap();
-        self.byte(b':')?;
+        self.mark(b":")?;
         self.may_gap();
-        self.byte(b'(')
+        self.mark(b"(")
     }
 
+    #[tactic(auto, unfolding(crate::specs::ReadUnits::read_class))]
     fn class(&mut self) -> Result<(), ReadFault>
         ensures { Reads read_class self.old result self.new }
     {
         self.may_gap();
         self.keyword(b"variable")?;
         self.may_gap();
-        self.byte(b'(')?;
+        self.mark(b"(")?;
         self.may_gap();
         Ok(())
     }
 
+    #[tactic(auto, unfolding(crate::specs::ReadUnits::read_closing))]
     fn closing(&mut self) -> Result<(), ReadFault>
         ensures { Reads read_closing self.old result self.new }
     {
@@ -108,6 +103,7 @@ impl Cursor<'_> {
     }
 
     // What follows a declaration's name.
+    #[tactic(auto, unfolding(crate::specs::ReadUnits::read_declared))]
     fn declared(&mut self) -> Result<Domain, ReadFault>
         ensures { Reads read_declared self.old result self.new }
     {
@@ -123,25 +119,23 @@ impl Cursor<'_> {
         ensures { result ≡ opens_declaration self.now.bytes.now self.now.at }
     {
         let mut ahead = *self;
-        match ahead.word() {
-            Ok(_) => {
-                ahead.may_gap();
-                ahead.peek() == b':'
-            }
-            Err(_) => false,
+        if ahead.word().is_err() {
+            return false;
         }
+        ahead.may_gap();
+        ahead.peek() == Some(b':')
     }
 
     // A name that none of these variables has.
+    #[tactic(auto, unfolding(crate::specs::ReadUnits::read_fresh))]
     fn fresh_name(&mut self, seen: &[Variable]) -> Result<Span, ReadFault>
         ensures { Reads (read_fresh seen.now) self.old result self.new }
     {
-        let fault = self.fault(Refusal::Name);
         let name = self.name()?;
-        match find_name(self.bytes, seen, name.of(self.bytes)) {
-            None => Ok(name),
-            Some(_) => Err(fault),
+        if is_taken(seen, self.bytes, name.of(self.bytes)) {
+            return Err(Refusal::Name.at(name.start));
         }
+        Ok(name)
     }
 
     fn declaration(&mut self, seen: &[Variable]) -> Result<Variable, ReadFault>
@@ -153,29 +147,27 @@ impl Cursor<'_> {
     }
 
     // A declaration, where the table may take one more.
-    fn entry(&mut self, variables: &[Variable], count: usize) -> Result<Variable, ReadFault>
-        ensures value { Reads (read_entry (full_by (length variables.now) 32) (nat_le (min (length variables.now) 32) count) (take count variables.now)) self.old result self.new }
-        ensures within { OnOk result (count < min (length variables.now) 32) }
+    #[tactic(auto, unfolding(crate::specs::ReadUnits::read_entry))]
+    fn entry(&mut self, variables: &Table<Variable>) -> Result<Variable, ReadFault>
+        ensures value { Reads (read_entry (full_by (length variables.now.records.now) variable_limit) (nat_le (min (length variables.now.records.now) variable_limit) variables.now.count) (take variables.now.count variables.now.records.now)) self.old result self.new }
+        ensures within { OnOk result (variables.now.count < min (length variables.now.records.now) variable_limit) }
     {
-        let fault = self.fault(full_by(variables.len(), VARIABLE_LIMIT));
-        if count >= variables.len().min(VARIABLE_LIMIT) {
-            self.name()?;
-            return Err(fault);
+        if let Some(refusal) = variables.refusal(VARIABLE_LIMIT) {
+            let name = self.name()?;
+            return Err(refusal.at(name.start));
         }
-        self.declaration(&variables[0..count])
+        self.declaration(variables.filled())
     }
 
-    // All declarations, into the table; their number is told.
-    pub(super) fn declarations(&mut self, variables: &mut [Variable]) -> Result<usize, ReadFault>
-        ensures value { Fills (read_declarations (length variables.old) (min (length variables.old) 32) []) self.old variables.old result self.new variables.new }
-        ensures within { IfOk result (λ n. n ≤ length variables.old) }
+    // All declarations, into the table.
+    pub(super) fn declarations(&mut self, variables: &mut Table<Variable>) -> Result<(), ReadFault>
+        requires { variables.old.count ≡ 0 }
+        ensures { Fills (read_declarations (length variables.old.records.now) (min (length variables.old.records.now) variable_limit) []) self.old variables.old result self.new variables.new }
     {
-        let mut count = 0;
         while self.opens_declaration() {
-            let variable = self.entry(variables, count)?;
-            variables[count] = variable;
-            count += 1;
+            let variable = self.entry(variables)?;
+            variables.push(variable);
         }
-        Ok(count)
+        Ok(())
     }
 }

@@ -13,5 +13,6 @@ pub mod scope;
 pub mod span;
 pub mod statement;
 mod statement_reader;
+mod table;
 mod term_reader;
 pub mod variable;

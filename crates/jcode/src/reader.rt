@@ -1,6 +1,6 @@
 // Reading a unit into three tables.
 
-ghost use Rattle.std.specs.Prelude.{◌≡◌, length, replicate};
+ghost use Rattle.std.specs.Prelude.{◌≡◌};
 ghost use Rattle.jcode.specs.Pieces.{Reads};
 ghost use Rattle.jcode.specs.ReadUnits.{read_heading, tables, read_unit, answered, left_by, attempted, achieved};
 
@@ -10,11 +10,12 @@ use super::refusal::ReadFault;
 use super::scope::Scope;
 use super::span::Span;
 use super::statement::{Listing, Statement};
-use super::variable::{Domain, Variable};
+use super::table::Table;
+use super::variable::Variable;
 use terms::row::Row;
 
 // What a reading tells of a unit: its name, how many records of each table it fills, and the byte after it.
-#[derive(Clone, Copy)]
+#[derive(Clone, Copy, Debug, Default, PartialEq, Eq)]
 pub struct Outline {
     pub name: Span,
     pub variables: usize,
@@ -24,6 +25,7 @@ pub struct Outline {
 }
 
 impl Cursor<'_> {
+    #[tactic(auto, unfolding(crate::specs::ReadUnits::read_heading))]
     fn heading(&mut self) -> Result<Span, ReadFault>
         ensures { Reads read_heading self.old result self.new }
     {
@@ -35,39 +37,34 @@ impl Cursor<'_> {
     }
 }
 
-// Every record set to the same.
-fn fill<T: Copy>(table: &mut [T], blank: T)
-    ensures { table.new ≡ replicate (length table.old) blank }
-{
-    for place in table.iter_mut() {
-        *place = blank;
-    }
-}
-
-// Reads a unit; where it is refused, the tables hold what was read of it.
+// Reads a unit into empty tables; where it is refused, they hold what was read of it.
 fn attempt(
     bytes: &[u8],
     start: usize,
-    variables: &mut [Variable],
-    statements: &mut [Statement],
-    rows: &mut [UnitRow],
+    variables: &mut Table<Variable>,
+    statements: &mut Table<Statement>,
+    rows: &mut Table<UnitRow>,
 ) -> Result<Outline, ReadFault>
-    ensures { attempted result (tables variables.new statements.new rows.new) ≡ achieved (tables variables.old statements.old rows.old) (read_unit (tables variables.old statements.old rows.old) bytes.now start) }
+    requires { (variables.old.count ≡ 0) × (statements.old.count ≡ 0) × (rows.old.count ≡ 0) }
+    ensures value { attempted result (tables variables.new.records.now statements.new.records.now rows.new.records.now) ≡ achieved (tables variables.old.records.now statements.old.records.now rows.old.records.now) (read_unit (tables variables.old.records.now statements.old.records.now rows.old.records.now) bytes.now start) }
+    ensures variables_lent { variables.new.records.ghost_name ≡ variables.old.records.ghost_name }
+    ensures statements_lent { statements.new.records.ghost_name ≡ statements.old.records.ghost_name }
+    ensures rows_lent { rows.new.records.ghost_name ≡ rows.old.records.ghost_name }
 {
     let mut cursor = Cursor { bytes, at: start };
     let name = cursor.heading()?;
-    let declared = cursor.declarations(variables)?;
+    cursor.declarations(variables)?;
     let scope = Scope {
         bytes,
-        variables: &variables[0..declared],
+        variables: variables.filled(),
         listing: Listing::EMPTY,
     };
-    let counts = cursor.statements(scope, statements, rows)?;
+    cursor.statements(scope, statements, rows)?;
     Ok(Outline {
         name,
-        variables: declared,
-        statements: counts.statements,
-        rows: counts.rows,
+        variables: variables.count,
+        statements: statements.count,
+        rows: rows.count,
         next: cursor.at,
     })
 }
@@ -83,22 +80,17 @@ pub fn read(
     ensures result { result ≡ answered (read_unit (tables variables.old statements.old rows.old) bytes.now start) }
     ensures left { tables variables.new statements.new rows.new ≡ left_by (tables variables.old statements.old rows.old) (read_unit (tables variables.old statements.old rows.old) bytes.now start) }
 {
-    match attempt(bytes, start, variables, statements, rows) {
-        Ok(outline) => Ok(outline),
-        Err(fault) => {
-            fill(
-                variables,
-                Variable {
-                    name: Span {
-                        start: 0,
-                        length: 0,
-                    },
-                    domain: Domain::Integer,
-                },
-            );
-            fill(statements, Statement::Hang);
-            fill(rows, Row::Constant(0));
-            Err(fault)
-        }
+    let outline = attempt(
+        bytes,
+        start,
+        &mut Table::new(variables),
+        &mut Table::new(statements),
+        &mut Table::new(rows),
+    );
+    if outline.is_err() {
+        variables.fill(Variable::default());
+        statements.fill(Statement::default());
+        rows.fill(Row::Constant(0));
     }
+    outline
 }

@@ -1,9 +1,12 @@
 // Refusals: everything that may be found wrong with a unit, its tables or a call.
 
-ghost use Rattle.std.specs.Prelude.{◌≡◌};
+ghost use Rattle.std.specs.Prelude.{◌≡◌, Some};
 ghost use Rattle.jcode.specs.Refusals.{number_of, layer_of};
+ghost use Rattle.jcode.specs.Lines.{refused};
 
-#[derive(Clone, Copy)]
+use std::fmt;
+
+#[derive(Clone, Copy, Debug, PartialEq, Eq, PartialOrd, Ord)]
 pub enum Refusal {
     // The piece that is due does not begin here.
     Missing = 1,
@@ -42,7 +45,7 @@ pub enum Refusal {
 }
 
 // The part of the examiner that refuses.
-#[derive(Clone, Copy)]
+#[derive(Clone, Copy, Debug, PartialEq, Eq)]
 pub enum Layer {
     Reading,
     Checking,
@@ -59,17 +62,37 @@ impl Refusal {
     pub fn layer(self) -> Layer
         ensures { result ≡ layer_of self }
     {
-        match self.number() {
-            1..=5 => Layer::Reading,
-            6..=12 => Layer::Checking,
-            _ => Layer::Examination,
+        if self <= Refusal::Name {
+            Layer::Reading
+        } else if self <= Refusal::Paths {
+            Layer::Checking
+        } else {
+            Layer::Examination
+        }
+    }
+
+    // The fault of a piece that begins at a place.
+    pub(super) fn at(self, place: usize) -> ReadFault
+        ensures { result ≡ record { refusal = self; place = place } }
+    {
+        ReadFault {
+            refusal: self,
+            place,
         }
     }
 }
 
 // A refusal of reading, and the first byte of the faulty piece.
-#[derive(Clone, Copy)]
+#[derive(Clone, Copy, Debug, PartialEq, Eq)]
 pub struct ReadFault {
     pub refusal: Refusal,
     pub place: usize,
+}
+
+impl fmt::Display for ReadFault {
+    ghost output = { λ fault. Some (refused fault) };
+
+    fn fmt<W: fmt::Write>(&self, f: &mut fmt::Formatter<W>) -> fmt::Result {
+        write!(f, "refused {} {}", self.refusal.number(), self.place)
+    }
 }

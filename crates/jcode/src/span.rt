@@ -3,7 +3,9 @@
 ghost use Rattle.std.specs.Prelude.{◌≡◌};
 ghost use Rattle.jcode.specs.Bytes.{slice};
 
-#[derive(Clone, Copy)]
+use terms::part::part;
+
+#[derive(Clone, Copy, Debug, Default, PartialEq, Eq)]
 pub struct Span {
     pub start: usize,
     pub length: usize,
@@ -14,8 +16,6 @@ impl Span {
     pub fn of(self, bytes: &[u8]) -> &[u8]
         ensures { result.now ≡ slice bytes.now self }
     {
-        let start = self.start.min(bytes.len());
-        let length = self.length.min(bytes.len() - start);
-        &bytes[start..start + length]
+        part(bytes, self.start, self.length)
     }
 }

@@ -1,35 +1,25 @@
 // Reading statements, with their terms into the row table.
 
-ghost use Rattle.std.specs.Prelude.{◌≡◌, ◌+◌, ◌^◌, ◌<◌, ◌≤◌, min, length, IfOk, OnOk, nat_le};
+ghost use Rattle.std.specs.Prelude.{◌≡◌, ◌<◌, min, length, OnOk, nat_le};
 ghost use Rattle.jcode.specs.declared.statement_reader.Verb.TheVariants as verb;
 ghost use Rattle.jcode.specs.Pieces.{Reads};
 ghost use Rattle.jcode.specs.Scopes.{scope_of, listed_in};
-ghost use Rattle.jcode.specs.Sentences.{verb_of, row_count};
-ghost use Rattle.jcode.specs.ReadUnits.{full_by, read_sentence, goes_on as goes_on_unit, read_finish, LaysAll};
-ghost use Rattle.jcode.specs.ReadStatements.{read_single, read_again, read_repeated, read_target, goes_on, read_unseen, read_more_listed, read_names_listed, read_listed, read_text_end, read_label_end, read_gap_label, read_branch, read_expression, ReadsTerm, by_verb, Lays};
+ghost use Rattle.jcode.specs.Sentences.{verb_of};
+ghost use Rattle.jcode.specs.Tables.{full_by};
+ghost use Rattle.jcode.specs.ReadUnits.{statement_limit, read_sentence, goes_on as goes_on_unit, read_finish, LaysAll};
+ghost use Rattle.jcode.specs.ReadStatements.{read_single, read_again, read_repeated, read_target, goes_on, read_unseen, read_more_listed, read_names_listed, read_listed, read_text_end, read_label_end, read_gap_label, read_expression, ReadsTerm, by_verb, Lays};
 
 use super::cursor::Cursor;
-use super::declaration_reader::full_by;
 use super::mention::UnitRow;
 use super::refusal::{ReadFault, Refusal};
-use super::scope::{Scope, contains};
+use super::scope::Scope;
 use super::span::Span;
-use super::statement::{Listing, Statement, Term};
+use super::statement::{LIST_LIMIT, Listing, NESTING_LIMIT, STATEMENT_LIMIT, Statement, Term};
+use super::table::Table;
 use terms::word::{Entry, lookup, same_word};
 
-const NESTING: usize = 32;
-
-const STATEMENT_LIMIT: usize = 200;
-
-// How many statements and rows there are.
-#[derive(Clone, Copy)]
-pub(super) struct Counts {
-    pub(super) statements: usize,
-    pub(super) rows: usize,
-}
-
 // The word that a statement begins with.
-#[derive(Clone, Copy)]
+#[derive(Clone, Copy, Debug, PartialEq, Eq)]
 pub(super) enum Verb {
     Break,
     Require,
@@ -56,27 +46,16 @@ static VERBS: [Entry<Verb>; 10] = [
     Entry(b"HANG", Verb::Hang),
 ];
 
-pub(super) fn find_verb(word: &[u8]) -> Option<Verb>
-    ensures { result ≡ verb_of word.now }
-{
-    lookup(word, &VERBS)
-}
-
-// How many rows the terms of a statement have.
-fn row_count(statement: Statement) -> usize
-    ensures { result ≡ row_count statement }
-{
-    match statement {
-        Statement::Require { condition, .. } => condition.rows,
-        Statement::Proclaim { condition } => condition.rows,
-        Statement::New { condition, .. } => condition.rows,
-        Statement::Assign { shadow, value, .. } => shadow.rows.saturating_add(value.rows),
-        Statement::When { condition, .. } => condition.rows,
-        _ => 0,
+impl Verb {
+    fn find(word: &[u8]) -> Option<Verb>
+        ensures { result ≡ verb_of word.now }
+    {
+        lookup(word, &VERBS)
     }
 }
 
 impl Cursor<'_> {
+    #[tactic(auto, unfolding(crate::specs::ReadStatements::read_text_end))]
     fn text_end(&mut self) -> Result<Span, ReadFault>
         ensures { Reads read_text_end self.old result self.new }
     {
@@ -86,6 +65,7 @@ impl Cursor<'_> {
         Ok(text)
     }
 
+    #[tactic(auto, unfolding(crate::specs::ReadStatements::read_label_end))]
     fn label_end(&mut self) -> Result<u16, ReadFault>
         ensures { Reads read_label_end self.old result self.new }
     {
@@ -96,10 +76,11 @@ impl Cursor<'_> {
     }
 
     // A name in brackets.
+    #[tactic(auto, unfolding(crate::specs::ReadStatements::read_single))]
     fn single(&mut self, scope: Scope) -> Result<usize, ReadFault>
         ensures { Reads (read_single (scope_of scope.entry)) self.old result self.new }
     {
-        self.byte(b'(')?;
+        self.mark(b"(")?;
         self.may_gap();
         let variable = self.variable(scope)?;
         self.close()?;
@@ -107,22 +88,24 @@ impl Cursor<'_> {
     }
 
     // The name of this variable once more.
+    #[tactic(auto, unfolding(crate::specs::ReadStatements::read_again))]
     fn again(&mut self, scope: Scope, variable: usize) -> Result<(), ReadFault>
         ensures { Reads (read_again (scope_of scope.entry) variable) self.old result self.new }
     {
-        let fault = self.fault(Refusal::Name);
+        let place = self.at;
         let other = self.variable(scope)?;
         if other != variable {
-            return Err(fault);
+            return Err(Refusal::Name.at(place));
         }
         Ok(())
     }
 
+    #[tactic(auto, unfolding(crate::specs::ReadStatements::read_repeated))]
     fn repeated(&mut self, scope: Scope, variable: usize) -> Result<(), ReadFault>
         ensures { Reads (read_repeated (scope_of scope.entry) variable) self.old result self.new }
     {
         self.may_gap();
-        self.byte(b'(')?;
+        self.mark(b"(")?;
         self.may_gap();
         self.again(scope, variable)?;
         self.close()
@@ -143,22 +126,22 @@ impl Cursor<'_> {
     {
         let mut ahead = *self;
         ahead.may_gap();
-        ahead.peek() != b')'
+        ahead.peek() != Some(b')')
     }
 
     // A variable for a list that may take it.
+    #[tactic(auto, unfolding(crate::specs::ReadStatements::read_unseen))]
     fn unseen(&mut self, scope: Scope, listing: Listing) -> Result<usize, ReadFault>
-        ensures { Reads (read_unseen (scope_of scope.entry) (nat_le 8 listing.count) (listed_in listing)) self.old result self.new }
+        ensures { Reads (read_unseen (scope_of scope.entry) (nat_le LIST_LIMIT listing.count) (listed_in listing)) self.old result self.new }
     {
-        let limit = self.fault(Refusal::Limit);
-        let known = self.fault(Refusal::Name);
-        if listing.count >= 8 {
+        let place = self.at;
+        if listing.count >= LIST_LIMIT {
             self.name()?;
-            return Err(limit);
+            return Err(Refusal::Limit.at(place));
         }
         let variable = self.variable(scope)?;
-        if contains(listing.listed(), variable) {
-            return Err(known);
+        if listing.listed().contains(&variable) {
+            return Err(Refusal::Name.at(place));
         }
         Ok(variable)
     }
@@ -179,10 +162,11 @@ impl Cursor<'_> {
     }
 
     // Listed names, up to the closing bracket.
+    #[tactic(auto, unfolding(crate::specs::ReadStatements::read_names))]
     fn names(&mut self, scope: Scope) -> Result<Listing, ReadFault>
         ensures { Reads (read_names_listed (scope_of scope.entry)) self.old result self.new }
     {
-        if self.peek() == b')' {
+        if self.peek() == Some(b')') {
             self.at += 1;
             return Ok(Listing::EMPTY);
         }
@@ -191,55 +175,41 @@ impl Cursor<'_> {
     }
 
     // Names in brackets.
+    #[tactic(auto, unfolding(crate::specs::ReadStatements::read_listing))]
     fn listing(&mut self, scope: Scope) -> Result<Listing, ReadFault>
         ensures { Reads (read_listed (scope_of scope.entry)) self.old result self.new }
     {
-        self.byte(b'(')?;
+        self.mark(b"(")?;
         self.may_gap();
         self.names(scope)
     }
 
-    // An expression, into the table after the rows that are used.
-    fn expression(
-        &mut self,
-        scope: Scope,
-        rows: &mut [UnitRow],
-        used: usize,
-    ) -> Result<Term, ReadFault>
-        ensures value { ReadsTerm (read_expression (scope_of scope.entry) (length rows.old) used) used self.old rows.old result self.new rows.new }
-        ensures within { IfOk result (λ t. used + t.rows < 2 ^ 64) }
+    // An expression, into the table.
+    fn expression(&mut self, scope: Scope, rows: &mut Table<UnitRow>) -> Result<Term, ReadFault>
+        ensures { ReadsTerm (read_expression (scope_of scope.entry) (length rows.old.records.now) rows.old.count) self.old rows.old result self.new rows.new }
     {
-        let next = self.term(scope, rows, used, NESTING)?;
+        let first = rows.count;
+        self.term(scope, rows, NESTING_LIMIT)?;
         Ok(Term {
-            first: used,
-            rows: next - used,
+            first,
+            rows: rows.count - first,
         })
     }
 
-    fn require(
-        &mut self,
-        scope: Scope,
-        rows: &mut [UnitRow],
-        used: usize,
-    ) -> Result<Statement, ReadFault>
-        ensures { Lays (by_verb (scope_of scope.entry) (length rows.old) used verb.Require) used self.old rows.old result self.new rows.new }
+    fn require(&mut self, scope: Scope, rows: &mut Table<UnitRow>) -> Result<Statement, ReadFault>
+        ensures { Lays (by_verb (scope_of scope.entry) (length rows.old.records.now) rows.old.count verb.Require) self.old rows.old result self.new rows.new }
     {
         self.gap()?;
-        let condition = self.expression(scope, rows, used)?;
+        let condition = self.expression(scope, rows)?;
         let text = self.text_end()?;
         Ok(Statement::Require { condition, text })
     }
 
-    fn proclaim(
-        &mut self,
-        scope: Scope,
-        rows: &mut [UnitRow],
-        used: usize,
-    ) -> Result<Statement, ReadFault>
-        ensures { Lays (by_verb (scope_of scope.entry) (length rows.old) used verb.Proclaim) used self.old rows.old result self.new rows.new }
+    fn proclaim(&mut self, scope: Scope, rows: &mut Table<UnitRow>) -> Result<Statement, ReadFault>
+        ensures { Lays (by_verb (scope_of scope.entry) (length rows.old.records.now) rows.old.count verb.Proclaim) self.old rows.old result self.new rows.new }
     {
         self.gap()?;
-        let condition = self.expression(scope, rows, used)?;
+        let condition = self.expression(scope, rows)?;
         self.end()?;
         Ok(Statement::Proclaim { condition })
     }
@@ -247,20 +217,14 @@ impl Cursor<'_> {
     fn new_values(
         &mut self,
         scope: Scope,
-        rows: &mut [UnitRow],
-        used: usize,
+        rows: &mut Table<UnitRow>,
     ) -> Result<Statement, ReadFault>
-        ensures { Lays (by_verb (scope_of scope.entry) (length rows.old) used verb.New) used self.old rows.old result self.new rows.new }
+        ensures { Lays (by_verb (scope_of scope.entry) (length rows.old.records.now) rows.old.count verb.New) self.old rows.old result self.new rows.new }
     {
         self.gap()?;
         let listing = self.listing(scope)?;
         self.may_gap();
-        let within = Scope {
-            bytes: scope.bytes,
-            variables: scope.variables,
-            listing,
-        };
-        let condition = self.expression(within, rows, used)?;
+        let condition = self.expression(Scope { listing, ..scope }, rows)?;
         let text = self.text_end()?;
         Ok(Statement::New {
             listing,
@@ -269,20 +233,15 @@ impl Cursor<'_> {
         })
     }
 
-    fn assign(
-        &mut self,
-        scope: Scope,
-        rows: &mut [UnitRow],
-        used: usize,
-    ) -> Result<Statement, ReadFault>
-        ensures { Lays (by_verb (scope_of scope.entry) (length rows.old) used verb.Assign) used self.old rows.old result self.new rows.new }
+    fn assign(&mut self, scope: Scope, rows: &mut Table<UnitRow>) -> Result<Statement, ReadFault>
+        ensures { Lays (by_verb (scope_of scope.entry) (length rows.old.records.now) rows.old.count verb.Assign) self.old rows.old result self.new rows.new }
     {
         self.gap()?;
         let variable = self.target(scope)?;
         self.may_gap();
-        let shadow = self.expression(scope, rows, used)?;
+        let shadow = self.expression(scope, rows)?;
         self.may_gap();
-        let value = self.expression(scope, rows, used + shadow.rows)?;
+        let value = self.expression(scope, rows)?;
         self.end()?;
         Ok(Statement::Assign {
             variable,
@@ -291,20 +250,16 @@ impl Cursor<'_> {
         })
     }
 
-    fn when(
-        &mut self,
-        scope: Scope,
-        rows: &mut [UnitRow],
-        used: usize,
-    ) -> Result<Statement, ReadFault>
-        ensures { Lays (by_verb (scope_of scope.entry) (length rows.old) used verb.When) used self.old rows.old result self.new rows.new }
+    fn when(&mut self, scope: Scope, rows: &mut Table<UnitRow>) -> Result<Statement, ReadFault>
+        ensures { Lays (by_verb (scope_of scope.entry) (length rows.old.records.now) rows.old.count verb.When) self.old rows.old result self.new rows.new }
     {
         self.gap()?;
-        let condition = self.expression(scope, rows, used)?;
+        let condition = self.expression(scope, rows)?;
         let label = self.label_end()?;
         Ok(Statement::When { condition, label })
     }
 
+    #[tactic(auto, unfolding(crate::specs::ReadStatements::read_gap_label))]
     fn label_after_gap(&mut self) -> Result<u16, ReadFault>
         ensures { Reads read_gap_label self.old result self.new }
     {
@@ -314,38 +269,33 @@ impl Cursor<'_> {
         Ok(label)
     }
 
-    fn branch(&mut self) -> Result<Statement, ReadFault>
-        ensures { Reads read_branch self.old result self.new }
-    {
-        self.gap()?;
-        let text = self.text()?;
-        let label = self.label_end()?;
-        Ok(Statement::Branch { text, label })
-    }
-
-    // What follows a statement's word; the rows of its terms go into the table after those that are used.
+    // What follows a statement's word; the rows of its terms go into the table.
     pub(super) fn statement(
         &mut self,
         verb: Verb,
         scope: Scope,
-        rows: &mut [UnitRow],
-        used: usize,
+        rows: &mut Table<UnitRow>,
     ) -> Result<Statement, ReadFault>
-        ensures { Lays (by_verb (scope_of scope.entry) (length rows.old) used verb) used self.old rows.old result self.new rows.new }
+        ensures { Lays (by_verb (scope_of scope.entry) (length rows.old.records.now) rows.old.count verb) self.old rows.old result self.new rows.new }
     {
         match verb {
             Verb::Break => Ok(Statement::Break {
                 text: self.text_end()?,
             }),
-            Verb::Require => self.require(scope, rows, used),
-            Verb::Proclaim => self.proclaim(scope, rows, used),
-            Verb::New => self.new_values(scope, rows, used),
-            Verb::Assign => self.assign(scope, rows, used),
+            Verb::Require => self.require(scope, rows),
+            Verb::Proclaim => self.proclaim(scope, rows),
+            Verb::New => self.new_values(scope, rows),
+            Verb::Assign => self.assign(scope, rows),
             Verb::Split => Ok(Statement::Split {
                 label: self.label_after_gap()?,
             }),
-            Verb::When => self.when(scope, rows, used),
-            Verb::Branch => self.branch(),
+            Verb::When => self.when(scope, rows),
+            Verb::Branch => {
+                self.gap()?;
+                let text = self.text()?;
+                let label = self.label_end()?;
+                Ok(Statement::Branch { text, label })
+            }
             Verb::Join => Ok(Statement::Join {
                 label: self.label_after_gap()?,
             }),
@@ -356,28 +306,24 @@ impl Cursor<'_> {
         }
     }
 
-    // A statement, where a table of this length may take one more.
+    // A statement, where its table may take one more.
+    #[tactic(auto, unfolding(crate::specs::ReadUnits::read_sentence))]
     fn sentence(
         &mut self,
         scope: Scope,
-        table: usize,
-        count: usize,
-        rows: &mut [UnitRow],
-        used: usize,
+        statements: &Table<Statement>,
+        rows: &mut Table<UnitRow>,
     ) -> Result<Statement, ReadFault>
-        ensures value { Lays (read_sentence (scope_of scope.entry) (length rows.old) (full_by table 200) (nat_le (min table 200) count) used) used self.old rows.old result self.new rows.new }
-        ensures within { OnOk result (count < min table 200) }
+        ensures value { Lays (read_sentence (scope_of scope.entry) (length rows.old.records.now) (full_by (length statements.now.records.now) statement_limit) (nat_le (min (length statements.now.records.now) statement_limit) statements.now.count) rows.old.count) self.old rows.old result self.new rows.new }
+        ensures within { OnOk result (statements.now.count < min (length statements.now.records.now) statement_limit) }
     {
-        let missing = self.fault(Refusal::Missing);
-        let full = self.fault(full_by(table, STATEMENT_LIMIT));
+        let place = self.at;
         let word = self.word()?;
-        let Some(verb) = find_verb(word.of(self.bytes)) else {
-            return Err(missing);
-        };
-        if count >= table.min(STATEMENT_LIMIT) {
-            return Err(full);
+        let verb = Verb::find(word.of(self.bytes)).ok_or(Refusal::Missing.at(place))?;
+        if let Some(refusal) = statements.refusal(STATEMENT_LIMIT) {
+            return Err(refusal.at(place));
         }
-        self.statement(verb, scope, rows, used)
+        self.statement(verb, scope, rows)
     }
 
     // Whether the unit does not end here.
@@ -385,12 +331,12 @@ impl Cursor<'_> {
         ensures { result ≡ goes_on_unit self.now.bytes.now self.now.at }
     {
         let mut ahead = *self;
-        match ahead.word() {
-            Ok(word) => !same_word(word.of(self.bytes), b"END"),
-            Err(_) => true,
-        }
+        !ahead
+            .word()
+            .is_ok_and(|word| same_word(word.of(self.bytes), b"END"))
     }
 
+    #[tactic(auto, unfolding(crate::specs::ReadUnits::read_finish))]
     fn finish(&mut self) -> Result<(), ReadFault>
         ensures { Reads read_finish self.old result self.new }
     {
@@ -402,31 +348,16 @@ impl Cursor<'_> {
     pub(super) fn statements(
         &mut self,
         scope: Scope,
-        statements: &mut [Statement],
-        rows: &mut [UnitRow],
-    ) -> Result<Counts, ReadFault>
-        ensures value { LaysAll (scope_of scope.entry) self.old statements.old rows.old result self.new statements.new rows.new }
-        ensures within { IfOk result (λ n. (n.statements ≤ length statements.old) × (n.rows ≤ length rows.old)) }
+        statements: &mut Table<Statement>,
+        rows: &mut Table<UnitRow>,
+    ) -> Result<(), ReadFault>
+        requires { (statements.old.count ≡ 0) × (rows.old.count ≡ 0) }
+        ensures { LaysAll (scope_of scope.entry) self.old statements.old rows.old result self.new statements.new rows.new }
     {
-        let mut counts = Counts {
-            statements: 0,
-            rows: 0,
-        };
         while self.has_more() {
-            let statement = self.sentence(
-                scope,
-                statements.len(),
-                counts.statements,
-                rows,
-                counts.rows,
-            )?;
-            statements[counts.statements] = statement;
-            counts = Counts {
-                statements: counts.statements + 1,
-                rows: counts.rows + row_count(statement),
-            };
+            let statement = self.sentence(scope, statements, rows)?;
+            statements.push(statement);
         }
-        self.finish()?;
-        Ok(counts)
+        self.finish()
     }
 }

@@ -6,18 +6,17 @@ ghost use Rattle.jcode.specs.Scopes.{scope_of};
 ghost use Rattle.jcode.specs.ReadTerms.{head_of, mention, by_head, known, read_variable, read_listed, read_defined, read_row, operands_after, read_open, read_begin, read_close, read_lead, read_operands, read_term, ReadsRows};
 
 use super::cursor::Cursor;
-use super::mention::{Aspect, Mention, Stage, UnitRow};
+use super::mention::{Aspect, Mention, ROW_LIMIT, Stage, UnitRow};
 use super::refusal::{ReadFault, Refusal};
-use super::scope::{Scope, contains, find_name};
+use super::scope::Scope;
 use super::span::Span;
+use super::table::Table;
 use terms::operator::{Operator, find};
 use terms::row::Row;
 use terms::word::{Entry, lookup, same_word};
 
-pub(super) const ROW_LIMIT: usize = 2_000;
-
 // What a word opens that `!` follows.
-#[derive(Clone, Copy)]
+#[derive(Clone, Copy, Debug, PartialEq, Eq)]
 pub(super) enum Head {
     Constant,
     Defined,
@@ -31,15 +30,11 @@ static MODIFIERS: [Entry<Head>; 3] = [
     Entry(b"new", Head::New),
 ];
 
-fn find_head(word: &[u8]) -> Option<Head>
-    ensures { result ≡ head_of word.now }
-{
-    match lookup(word, &MODIFIERS) {
-        Some(head) => Some(head),
-        None => match find(word) {
-            Some(operator) => Some(Head::Operator(operator)),
-            None => None,
-        },
+impl Head {
+    fn find(word: &[u8]) -> Option<Head>
+        ensures { result ≡ head_of word.now }
+    {
+        lookup(word, &MODIFIERS).or_else(|| find(word).map(Head::Operator))
     }
 }
 
@@ -65,16 +60,12 @@ fn operands_after(row: UnitRow) -> usize
 
 impl Cursor<'_> {
     // The variable that a name declares.
+    #[tactic(auto, using(crate::proofs::Names::position_map))]
     fn known(&self, scope: Scope, name: Span) -> Result<usize, ReadFault>
         ensures { told result self.now.at ≡ known (scope_of scope.entry) self.now.bytes.now name self.now.at }
     {
-        match find_name(scope.bytes, scope.variables, name.of(self.bytes)) {
-            Some(variable) => Ok(variable),
-            None => Err(ReadFault {
-                refusal: Refusal::Name,
-                place: name.start,
-            }),
-        }
+        let unknown = Refusal::Name.at(name.start);
+        scope.find(name.of(self.bytes)).ok_or(unknown)
     }
 
     pub(super) fn variable(&mut self, scope: Scope) -> Result<usize, ReadFault>
@@ -88,62 +79,52 @@ impl Cursor<'_> {
     fn listed(&mut self, scope: Scope) -> Result<usize, ReadFault>
         ensures { Reads (read_listed (scope_of scope.entry)) self.old result self.new }
     {
-        let fault = self.fault(Refusal::Name);
+        let place = self.at;
         let variable = self.variable(scope)?;
-        if contains(scope.listing.listed(), variable) {
-            return Ok(variable);
+        if !scope.listing.listed().contains(&variable) {
+            return Err(Refusal::Name.at(place));
         }
-        Err(fault)
+        Ok(variable)
     }
 
     // What follows `defined!`: a variable, or `new!` and a listed one.
     fn defined(&mut self, scope: Scope) -> Result<UnitRow, ReadFault>
         ensures { Reads (read_defined (scope_of scope.entry)) self.old result self.new }
     {
-        let fault = self.fault(Refusal::Missing);
         let name = self.name()?;
-        if self.peek() != b'!' {
+        if self.peek() != Some(b'!') {
             let variable = self.known(scope, name)?;
             return Ok(mentioned(variable, Aspect::Shadow, Stage::Current));
         }
         self.at += 1;
         if !same_word(name.of(self.bytes), b"new") {
-            return Err(fault);
+            return Err(Refusal::Missing.at(name.start));
         }
         self.gap()?;
         let variable = self.listed(scope)?;
         Ok(mentioned(variable, Aspect::Shadow, Stage::New))
     }
 
-    // What follows a word and its `!`, up to the operands; the word stands at `place`.
-    fn headed(
-        &mut self,
-        scope: Scope,
-        place: usize,
-        head: Option<Head>,
-    ) -> Result<UnitRow, ReadFault>
-        ensures { Reads (by_head (scope_of scope.entry) place head) self.old result self.new }
+    // What follows a word and its `!`, up to the operands.
+    fn headed(&mut self, scope: Scope, head: Head) -> Result<UnitRow, ReadFault>
+        ensures { Reads (by_head (scope_of scope.entry) head) self.old result self.new }
     {
         match head {
-            Some(Head::Constant) => {
+            Head::Constant => {
                 self.gap()?;
                 let number = self.number()?;
                 Ok(Row::Constant(number))
             }
-            Some(Head::Defined) => {
+            Head::Defined => {
                 self.gap()?;
                 self.defined(scope)
             }
-            Some(Head::New) => {
+            Head::New => {
                 self.gap()?;
                 let variable = self.listed(scope)?;
                 Ok(mentioned(variable, Aspect::Value, Stage::New))
             }
-            Some(Head::Operator(operator)) => Ok(Row::Operator(operator)),
-            None => Err(ReadFault {
-                refusal: Refusal::Name,
-                place,
-            }),
+            Head::Operator(operator) => Ok(Row::Operator(operator)),
         }
     }
 
@@ -151,55 +132,55 @@ impl Cursor<'_> {
     fn row(&mut self, scope: Scope) -> Result<UnitRow, ReadFault>
         ensures { Reads (read_row (scope_of scope.entry)) self.old result self.new }
     {
-        let place = self.at;
         let name = self.name()?;
-        if self.peek() == b'!' {
+        if self.peek() == Some(b'!') {
             self.at += 1;
-            return self.headed(scope, place, find_head(name.of(self.bytes)));
+            let head = Head::find(name.of(self.bytes)).ok_or(Refusal::Name.at(name.start))?;
+            return self.headed(scope, head);
         }
         let variable = self.known(scope, name)?;
         Ok(mentioned(variable, Aspect::Value, Stage::Current))
     }
 
     // A term's opening bracket, with the limits that its row can pass.
-    fn open(&mut self, left: usize, room: usize, used: usize) -> Result<(), ReadFault>
-        ensures value { Reads (read_open left room used) self.old result self.new }
-        ensures within { OnOk result ((0 < left) × (used < room)) }
+    fn open(&mut self, rows: &Table<UnitRow>, left: usize) -> Result<(), ReadFault>
+        ensures value { Reads (read_open left (length rows.now.records.now) rows.now.count) self.old result self.new }
+        ensures within { OnOk result ((0 < left) × (rows.now.count < length rows.now.records.now)) }
     {
-        let limit = self.fault(Refusal::Limit);
-        let table = self.fault(Refusal::Table);
-        self.byte(b'(')?;
-        if left == 0 || used >= ROW_LIMIT {
-            return Err(limit);
+        let place = self.at;
+        self.mark(b"(")?;
+        if left == 0 {
+            return Err(Refusal::Limit.at(place));
         }
-        if used >= room {
-            return Err(table);
+        if let Some(refusal) = rows.refusal(ROW_LIMIT) {
+            return Err(refusal.at(place));
         }
         Ok(())
     }
 
     // A term up to its operands.
+    #[tactic(auto, unfolding(crate::specs::ReadTerms::read_begin))]
     fn begin(
         &mut self,
         scope: Scope,
+        rows: &Table<UnitRow>,
         left: usize,
-        room: usize,
-        used: usize,
     ) -> Result<UnitRow, ReadFault>
-        ensures value { Reads (read_begin (scope_of scope.entry) left room used) self.old result self.new }
-        ensures within { OnOk result ((0 < left) × (used < room)) }
+        ensures value { Reads (read_begin (scope_of scope.entry) left (length rows.now.records.now) rows.now.count) self.old result self.new }
+        ensures within { OnOk result ((0 < left) × (rows.now.count < length rows.now.records.now)) }
     {
-        self.open(left, room, used)?;
+        self.open(rows, left)?;
         self.may_gap();
         self.row(scope)
     }
 
     // A closing bracket, perhaps after a gap.
+    #[tactic(auto, unfolding(crate::specs::ReadTerms::read_close))]
     pub(super) fn close(&mut self) -> Result<(), ReadFault>
         ensures { Reads read_close self.old result self.new }
     {
         self.may_gap();
-        self.byte(b')')
+        self.mark(b")")
     }
 
     // A gap, which must stand ahead of the first operand.
@@ -213,22 +194,20 @@ impl Cursor<'_> {
         Ok(())
     }
 
-    // A term, with so much nesting left; it goes into the table after the rows that are used, and the rows used then are told.
+    // A term, with so much nesting left, into the table.
     #[cycle(operands_term)]
     pub(super) fn term(
         &mut self,
         scope: Scope,
-        rows: &mut [UnitRow],
-        used: usize,
+        rows: &mut Table<UnitRow>,
         left: usize,
-    ) -> Result<usize, ReadFault>
-        ensures { ReadsRows (read_term (scope_of scope.entry) (length rows.old) left used) used self.old rows.old result self.new rows.new }
+    ) -> Result<(), ReadFault>
+        ensures { ReadsRows (read_term (scope_of scope.entry) (length rows.old.records.now) left rows.old.count) self.old rows.old result self.new rows.new }
     {
-        let row = self.begin(scope, left, rows.len(), used)?;
-        rows[used] = row;
-        let used = self.operands(scope, rows, used + 1, left - 1, operands_after(row))?;
-        self.close()?;
-        Ok(used)
+        let row = self.begin(scope, rows, left)?;
+        rows.push(row);
+        self.operands(scope, rows, left - 1, operands_after(row))?;
+        self.close()
     }
 
     // So many terms, the first after a gap.
@@ -236,18 +215,16 @@ impl Cursor<'_> {
     fn operands(
         &mut self,
         scope: Scope,
-        rows: &mut [UnitRow],
-        used: usize,
+        rows: &mut Table<UnitRow>,
         left: usize,
         count: usize,
-    ) -> Result<usize, ReadFault>
-        ensures { ReadsRows (read_operands (read_term (scope_of scope.entry) (length rows.old) left) count true used) used self.old rows.old result self.new rows.new }
+    ) -> Result<(), ReadFault>
+        ensures { ReadsRows (read_operands (read_term (scope_of scope.entry) (length rows.old.records.now) left) count true rows.old.count) self.old rows.old result self.new rows.new }
     {
-        let mut used = used;
         for i in 0..count {
             self.lead(i == 0)?;
-            used = self.term(scope, rows, used, left)?;
+            self.term(scope, rows, left)?;
         }
-        Ok(used)
+        Ok(())
     }
 }

@@ -1,9 +1,9 @@
-use Rattle.std.proofs.Common.{sym, ◌∙◌, rules}
-use Rattle.jcode.proofs.Values.{value_more, value_all}
+use Rattle.std.proofs.Common.{◌≡◌, ◌+◌, ◌-◌, ◌*◌, min, ◌∙◌, arith, rules}
+use Rattle.std.specs.Prelude.{fold}
+use Rattle.jcode.proofs.Values.{capped}
 use Rattle.jcode.proofs.cursor.value_of.Goals as goal
 
-pub loop-digit-preserved : goal.loop-digit-preserved
-loop-digit-preserved c = (value_more c.loop-digit.value c.min-value.result 2000000001 c.args.digits.now c.loop-digit.digit-index c.loop-digit-test.true (search rules) ∙ c.loop-digit.invariant.0, search rules)
-
 pub returns : goal.returns
-returns c = sym (value_all c.loop-digit.value 2000000001 c.args.digits.now c.loop-digit.digit-index c.loop-digit-test.false c.loop-digit.invariant.1) ∙ c.loop-digit.invariant.0
+returns c =
+    let e : c.fold.result ≡ fold (λ v b. min (min (v * 10) 18446744073709551615 + (b - 48)) 18446744073709551615) 0 c.args.digits.now = search rules in
+    e ∙ capped 18446744073709551615 0 0 c.args.digits.now (omega arith)

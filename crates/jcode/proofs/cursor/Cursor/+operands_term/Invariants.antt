@@ -11,7 +11,11 @@ decreases-term l = 2 * l.left
 
 -- what is left to read, after what is written, comes to the whole
 abbrev pub invariant-operands-loop-i : goal.invariant-operands-loop-i
-invariant-operands-loop-i l =
-    (l.self.bytes.now ≡ l.initial.self.bytes.now)
-    × (stored l.rows l.used (read_operands (read_term (scope_of l.scope) (length l.initial.rows) l.left) (l.count - l.i) (eqb l.i 0) l.used l.initial.self.bytes.now l.self.at)
-    ≡ stored l.initial.rows l.initial.used (read_operands (read_term (scope_of l.scope) (length l.initial.rows) l.left) l.count true l.initial.used l.initial.self.bytes.now l.initial.self.at))
+invariant-operands-loop-i l = record {
+  same : l.self.bytes.now ≡ l.initial.self.bytes.now;
+  lent : l.rows.records.ghost_name ≡ l.initial.rows.records.ghost_name;
+  room : length l.rows.records.now ≡ length l.initial.rows.records.now;
+  whole :
+      stored l.rows.records.now l.rows.count (read_operands (read_term (scope_of l.scope) (length l.initial.rows.records.now) l.left) (l.count - l.i) (eqb l.i 0) l.rows.count l.initial.self.bytes.now l.self.at)
+      ≡ stored l.initial.rows.records.now l.initial.rows.count (read_operands (read_term (scope_of l.scope) (length l.initial.rows.records.now) l.left) l.count true l.initial.rows.count l.initial.self.bytes.now l.initial.self.at);
+}

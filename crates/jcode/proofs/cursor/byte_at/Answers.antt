@@ -1,6 +1,0 @@
-use Rattle.std.proofs.Common.{sym, rules}
-use Rattle.std.proofs.lemmas.List.{get_or_past}
-use Rattle.jcode.proofs.cursor.byte_at.Goals as goal
-
-pub returns-else-at-bytes : goal.returns-else-at-bytes
-returns-else-at-bytes c = record { value = sym (get_or_past c.args.bytes.now c.args.at 0 c.if-at-bytes.false); within = search rules }
