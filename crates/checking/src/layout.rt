@@ -3,9 +3,8 @@
 ghost use Rattle.std.specs.Prelude.{◌≡◌, length, Some};
 ghost use Rattle.checking.specs.Layouts.{after_term, padded, after_statement, fills_from};
 
-use super::pieces::LIST_LIMIT;
 use super::tables::UnitTables;
-use jcode::statement::{Listing, Statement, Term};
+use jcode::statement::{LIST_LIMIT, Listing, Statement, Term};
 
 // The place after a term, if it stands at this place of a table with so many rows.
 fn after_term(total: usize, used: usize, term: Term) -> Option<usize>

@@ -8,22 +8,12 @@ ghost use Rattle.checking.specs.Pieces.{fits as fits_in, is_name, is_text, is_la
 use super::apart::are_apart;
 use jcode::mention::{Stage, UnitRow};
 use jcode::piece;
-use jcode::piece::is_word;
+use jcode::piece::{NAME_LIMIT, TEXT_LIMIT, is_word};
 use jcode::span::Span;
+use jcode::statement::{LABEL_LIMIT, LIST_LIMIT};
 use jcode::variable::{Domain, Variable};
 use terms::number::spans;
 use terms::row::Row;
-
-// How long a name and a text may be.
-const NAME_LIMIT: usize = 32;
-
-const TEXT_LIMIT: usize = 80;
-
-// The greatest label.
-const LABEL_LIMIT: u16 = 9_999;
-
-// How many variables NEW may list.
-pub(super) const LIST_LIMIT: usize = 8;
 
 // Whether the span lies within the bytes.
 fn fits(bytes: &[u8], span: Span) -> bool
@@ -75,10 +65,7 @@ fn is_known(count: usize, listed: &[usize], row: UnitRow) -> bool
         Row::Constant(number) => spans(number),
         Row::Mention(mention) => {
             mention.variable < count
-                && match mention.stage {
-                    Stage::Current => true,
-                    Stage::New => listed.contains(&mention.variable),
-                }
+                && (mention.stage == Stage::Current || listed.contains(&mention.variable))
         }
         Row::Operator(_) => true,
     }

@@ -2,6 +2,7 @@
 
 ghost use Rattle.std.specs.Prelude.{◌≡◌, ◌≤◌, map, length};
 ghost use Rattle.flow.specs.Flows.{steps_in};
+ghost use Rattle.jcode.specs.declared.statement.TheConstants.{STATEMENT_LIMIT};
 ghost use Rattle.checking.specs.Steps.{record_step};
 
 use super::tables::UnitTables;
@@ -28,7 +29,7 @@ fn step_of(statement: Statement) -> Step
 
 impl UnitTables<'_> {
     pub(super) fn flow(&self) -> Flow
-        requires { length self.now.statements.now ≤ 200 }
+        requires { length self.now.statements.now ≤ STATEMENT_LIMIT }
         ensures { steps_in result ≡ map record_step self.now.statements.now }
     {
         let mut flow = Flow::new();

@@ -3,7 +3,7 @@
 ghost use Rattle.std.specs.Prelude.{◌≡◌, ◌≤◌, Bool, not, length, position};
 ghost use Rattle.std.specs.List.{list_all};
 ghost use Rattle.jcode.specs.declared.statement.Statement.{Statement};
-ghost use Rattle.checking.specs.declared.term_table.TheConstants.{ROW_LIMIT};
+ghost use Rattle.jcode.specs.declared.mention.TheConstants.{ROW_LIMIT};
 ghost use Rattle.checking.specs.Held.{held};
 ghost use Rattle.checking.specs.Pieces.{is_declaration, same_name};
 ghost use Rattle.checking.specs.Tests.{apart};
@@ -11,21 +11,16 @@ ghost use Rattle.checking.specs.Readable.{few_enough, well_named, well_laid, rea
 
 use super::apart::are_apart;
 use super::pieces::{is_declaration, is_name};
-use super::term_table::{ROW_LIMIT, Room, TermTable};
+use super::term_table::{Room, TermTable};
 use super::types::Types;
-use jcode::mention::UnitRow;
+use jcode::mention::{ROW_LIMIT, UnitRow};
 use jcode::span::Span;
-use jcode::statement::Statement;
-use jcode::variable::Variable;
+use jcode::statement::{STATEMENT_LIMIT, Statement};
+use jcode::variable::{VARIABLE_LIMIT, Variable};
 use terms::word::same_word;
 
-// How many variables and statements a unit may have.
-const VARIABLE_LIMIT: usize = 32;
-
-const STATEMENT_LIMIT: usize = 200;
-
 // The tables of a unit, with its name and the bytes that both speak of.
-#[derive(Clone, Copy)]
+#[derive(Clone, Copy, Debug)]
 pub(super) struct UnitTables<'a> {
     pub(super) bytes: &'a [u8],
     pub(super) name: Span,

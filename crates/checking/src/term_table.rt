@@ -4,7 +4,7 @@ ghost use Rattle.std.specs.Prelude.{◌≡◌, ◌≤◌, length};
 ghost use Rattle.jcode.specs.ReadStatements.{nesting};
 ghost use Rattle.jcode.specs.Units.{term_in};
 ghost use Rattle.reckoning.specs.Kinds.{kind_of};
-ghost use Rattle.checking.specs.declared.term_table.TheConstants.{ROW_LIMIT};
+ghost use Rattle.jcode.specs.declared.mention.TheConstants.{ROW_LIMIT};
 ghost use Rattle.checking.specs.Nesting.{writes_term};
 ghost use Rattle.checking.specs.Rules.{stays_in};
 ghost use Rattle.checking.specs.Types.{domains_in, mention_kind};
@@ -13,8 +13,8 @@ use super::kinding::kind_of;
 use super::nesting::writes_term;
 use super::term::term_rows;
 use super::types::Types;
-use jcode::mention::UnitRow;
-use jcode::statement::Term;
+use jcode::mention::{ROW_LIMIT, UnitRow};
+use jcode::statement::{NESTING_LIMIT, Term};
 use reckoning::mark::Mark;
 use reckoning::spanning::stays_in_span;
 use terms::kind::Kind;
@@ -26,11 +26,6 @@ pub(super) struct TermTable<'a> {
     pub(super) rows: &'a [UnitRow],
     ghost few: { length rows.now ≤ ROW_LIMIT },
 }
-
-// How many rows a unit may have, and how deep its terms may nest.
-pub(super) const ROW_LIMIT: usize = 2_000;
-
-const NESTING_LIMIT: usize = 32;
 
 // An entry for each row of a term.
 pub(super) type Room<X> = [X; ROW_LIMIT];
