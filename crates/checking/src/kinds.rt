@@ -27,6 +27,7 @@ impl TermTable<'_> {
             .is_some_and(|domain| kind == Some(domain_kind(domain)))
     }
 
+    // By its own match: a list of a statement's terms would not tell a value, whose kind is its variable's.
     pub(super) fn kinds_kept(&self, statement: Statement, room: &mut Room<Option<Kind>>) -> bool
         ensures { result ≡ kinds_kept (domains_in self.now.types.variables.now) (sentence_in self.now.rows.now statement) }
     {

@@ -26,7 +26,7 @@ fn is_padded(listing: Listing) -> bool
             .all(|&v| v == 0)
 }
 
-// The place after a statement's terms, if they stand at this place.
+// The place after a statement's terms, if they stand at this place. By its own match: the padding of a list counts as well.
 fn after_statement(total: usize, used: usize, statement: Statement) -> Option<usize>
     ensures { result ≡ after_statement total used statement }
 {
