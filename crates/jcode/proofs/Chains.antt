@@ -1,5 +1,5 @@
 -- What a call reads after others, and what it refuses.
-use Rattle.std.proofs.Common.{◌≡◌, ℕ, List, IsErrAnd, Ok, Err, Result, refl, ap, ◌∙◌, arith}
+use Rattle.std.proofs.Common.{◌≡◌, ℕ, Bool, List, IsErrAnd, Ok, Err, Result, sym, refl, ap, ◌∙◌, arith}
 use Rattle.std.proofs.lemmas.Result.{err_from_is_err_and}
 use Rattle.jcode.specs.declared.cursor.Cursor.{Cursor}
 use Rattle.jcode.specs.declared.refusal.ReadFault.{ReadFault}
@@ -37,6 +37,10 @@ module _ {A B : Type 0} (f : A → B) {b : B} {j : ℕ} where
 pub refused_of : {A B : Type 0} (f : A → B) {y : ReadFault} (o : Answer A) → refused y ≡ and_then o (λ a i. got (f a) i) → refused y ≡ o
 refused_of f (got a i) e = let z : ◌≡◌ {A = ℕ} 0 1 = cc in absurd (omega arith)
 refused_of f (refused y) e = cc
+
+-- a test at a cursor, in bytes that are the same
+pub tested : (test : List ℕ → ℕ → Bool) (c : Cursor) {bytes : List ℕ} {b : Bool} → c.bytes.now ≡ bytes → b ≡ test c.bytes.now c.at → test bytes c.at ≡ b
+tested test c same e = ap (λ bytes. test bytes c.at) (sym same) ∙ sym e
 
 -- a reading in bytes that are the same
 module _ {A : Type 0} {r : Reader A} {c d : Cursor} {bytes : List ℕ} (s : c.bytes.now ≡ bytes) where

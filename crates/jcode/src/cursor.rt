@@ -54,6 +54,7 @@ fn proper(digits: &[u8], low: u32, high: u32) -> Option<u32>
 {
     let value = u32::try_from(value_of(digits)).ok()?;
     let padded = digits.len() > 1 && digits.first() == Some(&b'0');
+    // Two comparisons, since with a range's `contains` the search for the proof comes to its limits.
     (!padded && low <= value && value <= high).then_some(value)
 }
 

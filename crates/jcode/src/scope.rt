@@ -25,6 +25,7 @@ impl Scope<'_> {
     }
 }
 
+// For any variables, listed or mentioned, so no method of a list.
 pub fn contains(variables: &[usize], variable: usize) -> bool
     ensures { result ≡ member variable variables.now }
 {

@@ -65,6 +65,7 @@ impl Cursor<'_> {
         Ok(text)
     }
 
+    // As for a text: one function for both, with a closure for the piece, would say no less.
     #[tactic(auto, unfolding(crate::specs::ReadStatements::read_label_end))]
     fn label_end(&mut self) -> Result<u16, ReadFault>
         ensures { Reads read_label_end self.old result self.new }

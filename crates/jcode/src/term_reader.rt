@@ -48,7 +48,7 @@ fn mentioned(variable: usize, aspect: Aspect, stage: Stage) -> UnitRow
     })
 }
 
-// How many operands follow a row.
+// How many operands follow a row, which is a type of terms and so has no method here.
 fn operands_after(row: UnitRow) -> usize
     ensures { result ≡ operands_after row }
 {

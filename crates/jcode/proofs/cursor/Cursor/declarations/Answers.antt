@@ -1,8 +1,8 @@
-use Rattle.std.proofs.Common.{◌≡◌, ◌-◌, min, true, false, [], length, take, sym, refl, ap, ◌∙◌, arith, rules, length-set}
+use Rattle.std.proofs.Common.{◌≡◌, ◌-◌, min, [], length, take, sym, refl, ap, ◌∙◌, arith, rules, length-set}
 use Rattle.jcode.specs.Pieces.{got}
 use Rattle.jcode.specs.Tables.{put}
 use Rattle.jcode.specs.ReadUnits.{opens_declaration, read_declarations}
-use Rattle.jcode.proofs.Chains.{off, stopped_leaves}
+use Rattle.jcode.proofs.Chains.{tested, off, stopped_leaves}
 use Rattle.jcode.proofs.Fillings.{filled_push}
 use Rattle.jcode.proofs.Declarations.{entry_refused, entry_read, declared_all}
 use Rattle.jcode.proofs.cursor.Cursor.declarations.Goals as goal
@@ -25,7 +25,7 @@ loop-self-init c =
 
 pub returns-in_err-variable : goal.returns-in_err-variable
 returns-in_err-variable c =
-    let more : opens_declaration c.args.self.now.bytes.now c.loop-self.self.at ≡ true = ap (λ b. opens_declaration b c.loop-self.self.at) (sym c.loop-self.invariant.same) ∙ sym c.loop-self-test.ensures in
+    let more = tested opens_declaration c.loop-self.self c.loop-self.invariant.same c.loop-self-test.ensures in
     record {
       value = stopped_leaves c.from_residual.result _ _ c.from_residual.ensures.1 ∙ off (λ xs j. got (length xs, put c.args.variables.now.records.now 0 xs) j) (entry_refused c.args.variables.now.records.now c.loop-self.variables c.args.self.now.bytes.now _ c.loop-self.self c.loop-self.invariant.room c.loop-self.invariant.same c.loop-self.invariant.whole more _ c.in_err-variable.ensures.value);
       same = search rules;
@@ -40,7 +40,7 @@ loop-self-smaller c = omega (arith, c.in_ok-variable.ensures.within, c.push.ensu
 
 pub loop-self-preserved : goal.loop-self-preserved
 loop-self-preserved c =
-    let more : opens_declaration c.args.self.now.bytes.now c.loop-self.self.at ≡ true = ap (λ b. opens_declaration b c.loop-self.self.at) (sym c.loop-self.invariant.same) ∙ sym c.loop-self-test.ensures in
+    let more = tested opens_declaration c.loop-self.self c.loop-self.invariant.same c.loop-self-test.ensures in
     let room = c.in_ok-variable.ensures.within in
     let lengths = c.loop-self.invariant.room in
     let kept = ap length c.push.ensures.records ∙ length-set c.loop-self.variables.records.now c.loop-self.variables.count c.in_ok-variable.variable in
@@ -55,7 +55,7 @@ loop-self-preserved c =
 
 pub returns : goal.returns
 returns c =
-    let none : opens_declaration c.args.self.now.bytes.now c.loop-self.self.at ≡ false = ap (λ b. opens_declaration b c.loop-self.self.at) (sym c.loop-self.invariant.same) ∙ sym c.loop-self-test.ensures in
+    let none = tested opens_declaration c.loop-self.self c.loop-self.invariant.same c.loop-self-test.ensures in
     record {
       value = declared_all c.args.variables.now.records.now c.loop-self.variables c.args.self.now.bytes.now _ c.loop-self.self c.loop-self.invariant.room c.loop-self.invariant.same c.loop-self.invariant.whole none c.loop-self.invariant.filled;
       same = search rules;

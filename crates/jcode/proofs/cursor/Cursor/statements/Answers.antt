@@ -1,7 +1,7 @@
-use Rattle.std.proofs.Common.{◌≡◌, true, false, sym, ap, ◌∙◌, arith}
+use Rattle.std.proofs.Common.{◌∙◌, arith}
 use Rattle.jcode.specs.Scopes.{scope_of}
 use Rattle.jcode.specs.ReadUnits.{goes_on}
-use Rattle.jcode.proofs.Chains.{stopped_leaves}
+use Rattle.jcode.proofs.Chains.{tested, stopped_leaves}
 use Rattle.jcode.proofs.Statements.{nothing, tables, statement_refused, one_more, finished}
 use Rattle.jcode.proofs.cursor.Cursor.statements.Goals as goal
 
@@ -10,7 +10,7 @@ loop-self-init c = nothing (scope_of c.args.scope) c.args.self.now c.args.statem
 
 pub returns-in_err-statement : goal.returns-in_err-statement
 returns-in_err-statement c =
-    let more : goes_on c.args.self.now.bytes.now c.loop-self.self.at ≡ true = ap (λ b. goes_on b c.loop-self.self.at) (sym c.loop-self.invariant.same) ∙ sym c.loop-self-test.ensures in
+    let more = tested goes_on c.loop-self.self c.loop-self.invariant.same c.loop-self-test.ensures in
     let h = c.in_err-statement.ensures.value in
     record {
       value = stopped_leaves c.from_residual.result _ _ c.from_residual.ensures.1 ∙ statement_refused (scope_of c.args.scope) c.args.self.now c.args.statements.now c.args.rows.now c.loop-self.self c.loop-self.statements c.loop-self.rows c.loop-self.invariant more _ _ h;
@@ -29,13 +29,13 @@ loop-self-smaller c =
 
 pub loop-self-preserved : goal.loop-self-preserved
 loop-self-preserved c =
-    let more : goes_on c.args.self.now.bytes.now c.loop-self.self.at ≡ true = ap (λ b. goes_on b c.loop-self.self.at) (sym c.loop-self.invariant.same) ∙ sym c.loop-self-test.ensures in
+    let more = tested goes_on c.loop-self.self c.loop-self.invariant.same c.loop-self-test.ensures in
     let lengths = tables (scope_of c.args.scope) c.args.self.now c.args.statements.now c.args.rows.now c.loop-self.self c.loop-self.statements c.loop-self.rows c.loop-self.invariant in
     one_more (scope_of c.args.scope) c.args.self.now c.args.statements.now c.args.rows.now c.loop-self.self c.loop-self.statements c.loop-self.rows c.loop-self.invariant more _ _ _ c.in_ok-statement.ensures.value c.push.new.self c.push.ensures.lent c.push.ensures.records c.push.ensures.count (omega (arith, c.in_ok-statement.ensures.within, lengths))
 
 pub returns : goal.returns
 returns c =
-    let none : goes_on c.args.self.now.bytes.now c.loop-self.self.at ≡ false = ap (λ b. goes_on b c.loop-self.self.at) (sym c.loop-self.invariant.same) ∙ sym c.loop-self-test.ensures in
+    let none = tested goes_on c.loop-self.self c.loop-self.invariant.same c.loop-self-test.ensures in
     record {
       value = finished (scope_of c.args.scope) c.args.self.now c.args.statements.now c.args.rows.now c.loop-self.self c.loop-self.statements c.loop-self.rows c.loop-self.invariant none _ _ c.finish.ensures;
       same = c.finish.ensures.same ∙ c.loop-self.invariant.same;
