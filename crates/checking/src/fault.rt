@@ -7,7 +7,7 @@ ghost use Rattle.checking.specs.Faults.{refusal_of, place_of, refused};
 use jcode::refusal::{ReadFault, Refusal};
 use std::fmt;
 
-#[derive(Clone, Copy)]
+#[derive(Clone, Copy, Debug, PartialEq, Eq)]
 pub enum CheckFault {
     // What reading refused, whole.
     Reading(ReadFault),

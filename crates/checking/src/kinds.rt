@@ -5,8 +5,7 @@ ghost use Rattle.jcode.specs.Units.{term_in, sentence_in};
 ghost use Rattle.checking.specs.Rules.{is_truth, is_like, kinds_kept};
 ghost use Rattle.checking.specs.Types.{domains_in};
 
-use super::room::Room;
-use super::term_table::TermTable;
+use super::term_table::{Room, TermTable};
 use super::types::domain_kind;
 use jcode::statement::{Statement, Term};
 use terms::kind::Kind;
@@ -28,6 +27,7 @@ impl TermTable<'_> {
             .is_some_and(|domain| kind == Some(domain_kind(domain)))
     }
 
+    // By its own match: a list of a statement's terms would not tell a value, whose kind is its variable's.
     pub(super) fn kinds_kept(&self, statement: Statement, room: &mut Room<Option<Kind>>) -> bool
         ensures { result ≡ kinds_kept (domains_in self.now.types.variables.now) (sentence_in self.now.rows.now statement) }
     {

@@ -1,10 +1,10 @@
 // The layout of the row table: the terms of all statements stand one after another, and fill it.
 
-ghost use Rattle.std.specs.Prelude.{◌≡◌, Some};
+ghost use Rattle.std.specs.Prelude.{◌≡◌, length, Some};
 ghost use Rattle.checking.specs.Layouts.{after_term, padded, after_statement, fills_from};
 
-use super::pieces::LIST_LIMIT;
-use jcode::statement::{Listing, Statement, Term};
+use super::tables::UnitTables;
+use jcode::statement::{LIST_LIMIT, Listing, Statement, Term};
 
 // The place after a term, if it stands at this place of a table with so many rows.
 fn after_term(total: usize, used: usize, term: Term) -> Option<usize>
@@ -26,7 +26,7 @@ fn is_padded(listing: Listing) -> bool
             .all(|&v| v == 0)
 }
 
-// The place after a statement's terms, if they stand at this place.
+// The place after a statement's terms, if they stand at this place. By its own match: the padding of a list counts as well.
 fn after_statement(total: usize, used: usize, statement: Statement) -> Option<usize>
     ensures { result ≡ after_statement total used statement }
 {
@@ -46,16 +46,19 @@ fn after_statement(total: usize, used: usize, statement: Statement) -> Option<us
     }
 }
 
-// Whether the statements' terms stand one after another and fill a table with so many rows.
-pub(super) fn fills(total: usize, statements: &[Statement]) -> bool
-    ensures { result ≡ fills_from total (Some 0) statements.now }
-{
-    let mut used = 0;
-    for statement in statements {
-        let Some(next) = after_statement(total, used, *statement) else {
-            return false;
-        };
-        used = next;
+impl UnitTables<'_> {
+    // Whether the statements' terms stand one after another and fill the row table.
+    pub(super) fn are_filled(&self) -> bool
+        ensures { result ≡ fills_from (length self.now.rows.now) (Some 0) self.now.statements.now }
+    {
+        let total = self.rows.len();
+        let mut used = 0;
+        for statement in self.statements {
+            let Some(next) = after_statement(total, used, *statement) else {
+                return false;
+            };
+            used = next;
+        }
+        used == total
     }
-    used == total
 }

@@ -8,7 +8,6 @@ mod kinds;
 mod layout;
 pub mod nesting;
 mod pieces;
-mod room;
 mod rules;
 mod sentences;
 mod spans;

@@ -3,28 +3,17 @@
 ghost use Rattle.std.specs.Prelude.{◌≡◌, nat_eq, nat_lt};
 ghost use Rattle.std.specs.List.{list_all};
 ghost use Rattle.checking.specs.Tests.{apart};
-ghost use Rattle.checking.specs.Pieces.{same_name, fits as fits_in, is_name, is_text, is_label, is_domain, is_declaration, row_known, is_list};
+ghost use Rattle.checking.specs.Pieces.{fits as fits_in, is_name, is_text, is_label, is_domain, is_declaration, row_known, is_list};
 
 use super::apart::are_apart;
 use jcode::mention::{Stage, UnitRow};
 use jcode::piece;
-use jcode::piece::is_word;
+use jcode::piece::{NAME_LIMIT, TEXT_LIMIT, is_word};
 use jcode::span::Span;
+use jcode::statement::{LABEL_LIMIT, LIST_LIMIT};
 use jcode::variable::{Domain, Variable};
 use terms::number::spans;
 use terms::row::Row;
-use terms::word::same_word;
-
-// How long a name and a text may be.
-const NAME_LIMIT: usize = 32;
-
-const TEXT_LIMIT: usize = 80;
-
-// The greatest label.
-const LABEL_LIMIT: u16 = 9_999;
-
-// How many variables NEW may list.
-pub(super) const LIST_LIMIT: usize = 8;
 
 // Whether the span lies within the bytes.
 fn fits(bytes: &[u8], span: Span) -> bool
@@ -62,26 +51,10 @@ fn is_domain(domain: Domain) -> bool
     }
 }
 
-fn is_declaration(bytes: &[u8], variable: Variable) -> bool
+pub(super) fn is_declaration(bytes: &[u8], variable: Variable) -> bool
     ensures { result ≡ is_declaration bytes.now variable }
 {
     is_name(bytes, variable.name) && is_domain(variable.domain)
-}
-
-// Whether each variable keeps the rules of a declaration.
-pub(super) fn are_declarations(bytes: &[u8], variables: &[Variable]) -> bool
-    ensures { result ≡ list_all (is_declaration bytes.now) variables.now }
-{
-    variables.iter().all(|&v| is_declaration(bytes, v))
-}
-
-// Whether no two have one name.
-pub(super) fn have_own_names(bytes: &[u8], variables: &[Variable]) -> bool
-    ensures { result ≡ apart (same_name bytes.now) variables.now }
-{
-    are_apart(variables, |v, w| {
-        same_word(v.name.of(bytes), w.name.of(bytes))
-    })
 }
 
 // Whether a term can have this row, with so many variables, where NEW lists these.
@@ -92,10 +65,7 @@ fn is_known(count: usize, listed: &[usize], row: UnitRow) -> bool
         Row::Constant(number) => spans(number),
         Row::Mention(mention) => {
             mention.variable < count
-                && match mention.stage {
-                    Stage::Current => true,
-                    Stage::New => listed.contains(&mention.variable),
-                }
+                && (mention.stage == Stage::Current || listed.contains(&mention.variable))
         }
         Row::Operator(_) => true,
     }

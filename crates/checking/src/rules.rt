@@ -7,8 +7,6 @@ ghost use Rattle.checking.specs.Breaks.{steps_of, Checks, ruled};
 ghost use Rattle.checking.specs.Held.{held};
 
 use super::fault::CheckFault;
-use super::room::lowest_failing;
-use super::steps::flow_of;
 use super::tables::UnitTables;
 use flow::paths::Paths;
 use jcode::refusal::Refusal;
@@ -34,18 +32,14 @@ impl UnitTables<'_> {
             });
         }
         let terms = self.terms();
-        let flow = flow_of(self.statements);
+        let flow = self.flow();
         rule(Refusal::Order, flow.misplaced())?;
-        rule(
-            Refusal::Kind,
-            lowest_failing(self.statements, None, |s, room| terms.kinds_kept(s, room)),
-        )?;
+        let wrong_kind = self.lowest_failing(None, |s, room| terms.kinds_kept(s, room));
+        rule(Refusal::Kind, wrong_kind)?;
         rule(Refusal::Label, flow.mislabelled())?;
         rule(Refusal::Circle, flow.circular())?;
-        rule(
-            Refusal::Range,
-            lowest_failing(self.statements, ANY, |s, room| terms.span_kept(s, room)),
-        )?;
+        let out_of_span = self.lowest_failing(ANY, |s, room| terms.span_kept(s, room));
+        rule(Refusal::Range, out_of_span)?;
         Paths::of(flow).ok_or(CheckFault::Rule {
             refusal: Refusal::Paths,
             place: 0,

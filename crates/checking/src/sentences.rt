@@ -6,9 +6,8 @@ ghost use Rattle.checking.specs.Pieces.{is_term};
 ghost use Rattle.checking.specs.Sentences.{keeps};
 
 use super::pieces::{are_known, is_label, is_list, is_text};
-use super::room::Room;
 use super::term::term_rows;
-use super::term_table::TermTable;
+use super::term_table::{Room, TermTable};
 use jcode::statement::{Statement, Term};
 
 impl TermTable<'_> {

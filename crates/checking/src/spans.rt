@@ -5,12 +5,12 @@ ghost use Rattle.jcode.specs.Units.{sentence_in};
 ghost use Rattle.checking.specs.Rules.{span_kept};
 ghost use Rattle.checking.specs.Types.{domains_in};
 
-use super::room::Room;
-use super::term_table::TermTable;
+use super::term_table::{Room, TermTable};
 use jcode::statement::Statement;
 use reckoning::mark::Mark;
 
 impl TermTable<'_> {
+    // By its own match: a chain over a list of the terms would change the room that its test captures, and a proof then knows nothing of its answers.
     pub(super) fn span_kept(&self, statement: Statement, room: &mut Room<Mark>) -> bool
         ensures { result ≡ span_kept (domains_in self.now.types.variables.now) (sentence_in self.now.rows.now statement) }
     {

@@ -2,8 +2,10 @@
 
 ghost use Rattle.std.specs.Prelude.{◌≡◌, ◌≤◌, map, length};
 ghost use Rattle.flow.specs.Flows.{steps_in};
+ghost use Rattle.jcode.specs.declared.statement.TheConstants.{STATEMENT_LIMIT};
 ghost use Rattle.checking.specs.Steps.{record_step};
 
+use super::tables::UnitTables;
 use flow::flow::Flow;
 use flow::step::Step;
 use jcode::statement::Statement;
@@ -25,13 +27,15 @@ fn step_of(statement: Statement) -> Step
     }
 }
 
-pub(super) fn flow_of(statements: &[Statement]) -> Flow
-    requires { length statements.now ≤ 200 }
-    ensures { steps_in result ≡ map record_step statements.now }
-{
-    let mut flow = Flow::new();
-    for statement in statements {
-        flow.push(step_of(*statement)).unwrap();
+impl UnitTables<'_> {
+    pub(super) fn flow(&self) -> Flow
+        requires { length self.now.statements.now ≤ STATEMENT_LIMIT }
+        ensures { steps_in result ≡ map record_step self.now.statements.now }
+    {
+        let mut flow = Flow::new();
+        for statement in self.statements {
+            flow.push(step_of(*statement)).unwrap();
+        }
+        flow
     }
-    flow
 }

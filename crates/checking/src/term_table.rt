@@ -4,18 +4,17 @@ ghost use Rattle.std.specs.Prelude.{◌≡◌, ◌≤◌, length};
 ghost use Rattle.jcode.specs.ReadStatements.{nesting};
 ghost use Rattle.jcode.specs.Units.{term_in};
 ghost use Rattle.reckoning.specs.Kinds.{kind_of};
-ghost use Rattle.checking.specs.declared.room.TheConstants.{ROW_LIMIT};
+ghost use Rattle.jcode.specs.declared.mention.TheConstants.{ROW_LIMIT};
 ghost use Rattle.checking.specs.Nesting.{writes_term};
 ghost use Rattle.checking.specs.Rules.{stays_in};
 ghost use Rattle.checking.specs.Types.{domains_in, mention_kind};
 
 use super::kinding::kind_of;
 use super::nesting::writes_term;
-use super::room::Room;
 use super::term::term_rows;
 use super::types::Types;
-use jcode::mention::UnitRow;
-use jcode::statement::Term;
+use jcode::mention::{ROW_LIMIT, UnitRow};
+use jcode::statement::{NESTING_LIMIT, Term};
 use reckoning::mark::Mark;
 use reckoning::spanning::stays_in_span;
 use terms::kind::Kind;
@@ -28,8 +27,8 @@ pub(super) struct TermTable<'a> {
     ghost few: { length rows.now ≤ ROW_LIMIT },
 }
 
-// How deep a unit's term may nest.
-const NESTING_LIMIT: usize = 32;
+// An entry for each row of a term.
+pub(super) type Room<X> = [X; ROW_LIMIT];
 
 impl TermTable<'_> {
     pub(super) fn kind(&self, term: Term, room: &mut Room<Option<Kind>>) -> Option<Kind>

@@ -10,7 +10,7 @@ use reckoning::mark::Mark;
 use terms::kind::Kind;
 use terms::mentions::Mentions;
 
-#[derive(Clone, Copy)]
+#[derive(Clone, Copy, Debug, PartialEq, Eq)]
 pub struct Types<'a> {
     pub variables: &'a [Variable],
 }

@@ -38,72 +38,72 @@ terms-terms-requires c =
     let u = c.args.self.now in
     (readable_right u.bytes.now u.name (held u) (sym c.if-not-are_readable.ensures)).few_rows
 
-pub flow_of-flow-requires : goal.flow_of-flow-requires
-flow_of-flow-requires c =
+pub flow-flow-requires : goal.flow-flow-requires
+flow-flow-requires c =
     let u = c.args.self.now in
     (readable_right u.bytes.now u.name (held u) (sym c.if-not-are_readable.ensures)).few_statements
 
 pub returns-in_err-rule-clause-checks : goal.returns-in_err-rule-clause-checks
 returns-in_err-rule-clause-checks c =
     let u = c.args.self.now in
-    let is = c.flow_of-flow.ensures in
+    let is = c.flow-flow.ensures in
     let ready = c.if-not-are_readable.ensures in
-    exits u.bytes.now u.name (held u) c.from_residual.result c.in_err-rule.field-0.0 c.from_residual.ensures.1 (order_first u c.flow_of-flow.result is ready c.misplaced.result c.in_err-rule.field-0.0 c.misplaced.ensures c.in_err-rule.ensures)
+    exits u.bytes.now u.name (held u) c.from_residual.result c.in_err-rule.field-0.0 c.from_residual.ensures.1 (order_first u c.flow-flow.result is ready c.misplaced.result c.in_err-rule.field-0.0 c.misplaced.ensures c.in_err-rule.ensures)
 
 pub returns-in_err-rule-2-clause-checks : goal.returns-in_err-rule-2-clause-checks
 returns-in_err-rule-2-clause-checks c =
     let u = c.args.self.now in
-    let is = c.flow_of-flow.ensures in
+    let is = c.flow-flow.ensures in
     let ready = c.if-not-are_readable.ensures in
-    let k8 = order_kept u c.flow_of-flow.result is ready c.misplaced.result c.in_ok-rule.field-0 c.misplaced.ensures c.in_ok-rule.ensures in
-    let kinds = c.lowest_failing.ensures (λ s. kinds_kept (domains_in u.variables.now) (sentence_in u.rows.now s)) (λ s r b t says. search rules) in
-    exits u.bytes.now u.name (held u) c.from_residual-in_err-rule-2.result c.in_err-rule-2.field-0.0 c.from_residual-in_err-rule-2.ensures.1 (kind_first u c.flow_of-flow.result is ready c.lowest_failing.result c.in_err-rule-2.field-0.0 k8 kinds c.in_err-rule-2.ensures)
+    let k8 = order_kept u c.flow-flow.result is ready c.misplaced.result c.in_ok-rule.field-0 c.misplaced.ensures c.in_ok-rule.ensures in
+    let kinds = c.lowest_failing-wrong_kind.ensures (λ s. kinds_kept (domains_in u.variables.now) (sentence_in u.rows.now s)) (λ s r b t says. search rules) in
+    exits u.bytes.now u.name (held u) c.from_residual-in_err-rule-2.result c.in_err-rule-2.field-0.0 c.from_residual-in_err-rule-2.ensures.1 (kind_first u c.flow-flow.result is ready c.lowest_failing-wrong_kind.result c.in_err-rule-2.field-0.0 k8 kinds c.in_err-rule-2.ensures)
 
 pub returns-in_err-rule-3-clause-checks : goal.returns-in_err-rule-3-clause-checks
 returns-in_err-rule-3-clause-checks c =
     let u = c.args.self.now in
-    let is = c.flow_of-flow.ensures in
+    let is = c.flow-flow.ensures in
     let ready = c.if-not-are_readable.ensures in
-    let k8 = order_kept u c.flow_of-flow.result is ready c.misplaced.result c.in_ok-rule.field-0 c.misplaced.ensures c.in_ok-rule.ensures in
-    let kinds = c.lowest_failing.ensures (λ s. kinds_kept (domains_in u.variables.now) (sentence_in u.rows.now s)) (λ s r b t says. search rules) in
-    let k9 = kind_kept u c.flow_of-flow.result is ready c.lowest_failing.result c.in_ok-rule-2.field-0 k8 kinds c.in_ok-rule-2.ensures in
-    exits u.bytes.now u.name (held u) c.from_residual-in_err-rule-3.result c.in_err-rule-3.field-0.0 c.from_residual-in_err-rule-3.ensures.1 (label_first u c.flow_of-flow.result is ready c.mislabelled.result c.in_err-rule-3.field-0.0 k9 c.mislabelled.ensures c.in_err-rule-3.ensures)
+    let k8 = order_kept u c.flow-flow.result is ready c.misplaced.result c.in_ok-rule.field-0 c.misplaced.ensures c.in_ok-rule.ensures in
+    let kinds = c.lowest_failing-wrong_kind.ensures (λ s. kinds_kept (domains_in u.variables.now) (sentence_in u.rows.now s)) (λ s r b t says. search rules) in
+    let k9 = kind_kept u c.flow-flow.result is ready c.lowest_failing-wrong_kind.result c.in_ok-rule-2.field-0 k8 kinds c.in_ok-rule-2.ensures in
+    exits u.bytes.now u.name (held u) c.from_residual-in_err-rule-3.result c.in_err-rule-3.field-0.0 c.from_residual-in_err-rule-3.ensures.1 (label_first u c.flow-flow.result is ready c.mislabelled.result c.in_err-rule-3.field-0.0 k9 c.mislabelled.ensures c.in_err-rule-3.ensures)
 
 pub returns-in_err-rule-4-clause-checks : goal.returns-in_err-rule-4-clause-checks
 returns-in_err-rule-4-clause-checks c =
     let u = c.args.self.now in
-    let is = c.flow_of-flow.ensures in
+    let is = c.flow-flow.ensures in
     let ready = c.if-not-are_readable.ensures in
-    let k8 = order_kept u c.flow_of-flow.result is ready c.misplaced.result c.in_ok-rule.field-0 c.misplaced.ensures c.in_ok-rule.ensures in
-    let kinds = c.lowest_failing.ensures (λ s. kinds_kept (domains_in u.variables.now) (sentence_in u.rows.now s)) (λ s r b t says. search rules) in
-    let k9 = kind_kept u c.flow_of-flow.result is ready c.lowest_failing.result c.in_ok-rule-2.field-0 k8 kinds c.in_ok-rule-2.ensures in
-    let k10 = label_kept u c.flow_of-flow.result is ready c.mislabelled.result c.in_ok-rule-3.field-0 k9 c.mislabelled.ensures c.in_ok-rule-3.ensures in
-    exits u.bytes.now u.name (held u) c.from_residual-in_err-rule-4.result c.in_err-rule-4.field-0.0 c.from_residual-in_err-rule-4.ensures.1 (circle_first u c.flow_of-flow.result is ready c.circular.result c.in_err-rule-4.field-0.0 k10 c.circular.ensures c.in_err-rule-4.ensures)
+    let k8 = order_kept u c.flow-flow.result is ready c.misplaced.result c.in_ok-rule.field-0 c.misplaced.ensures c.in_ok-rule.ensures in
+    let kinds = c.lowest_failing-wrong_kind.ensures (λ s. kinds_kept (domains_in u.variables.now) (sentence_in u.rows.now s)) (λ s r b t says. search rules) in
+    let k9 = kind_kept u c.flow-flow.result is ready c.lowest_failing-wrong_kind.result c.in_ok-rule-2.field-0 k8 kinds c.in_ok-rule-2.ensures in
+    let k10 = label_kept u c.flow-flow.result is ready c.mislabelled.result c.in_ok-rule-3.field-0 k9 c.mislabelled.ensures c.in_ok-rule-3.ensures in
+    exits u.bytes.now u.name (held u) c.from_residual-in_err-rule-4.result c.in_err-rule-4.field-0.0 c.from_residual-in_err-rule-4.ensures.1 (circle_first u c.flow-flow.result is ready c.circular.result c.in_err-rule-4.field-0.0 k10 c.circular.ensures c.in_err-rule-4.ensures)
 
 pub returns-in_err-rule-5-clause-checks : goal.returns-in_err-rule-5-clause-checks
 returns-in_err-rule-5-clause-checks c =
     let u = c.args.self.now in
-    let is = c.flow_of-flow.ensures in
+    let is = c.flow-flow.ensures in
     let ready = c.if-not-are_readable.ensures in
-    let k8 = order_kept u c.flow_of-flow.result is ready c.misplaced.result c.in_ok-rule.field-0 c.misplaced.ensures c.in_ok-rule.ensures in
-    let kinds = c.lowest_failing.ensures (λ s. kinds_kept (domains_in u.variables.now) (sentence_in u.rows.now s)) (λ s r b t says. search rules) in
-    let k9 = kind_kept u c.flow_of-flow.result is ready c.lowest_failing.result c.in_ok-rule-2.field-0 k8 kinds c.in_ok-rule-2.ensures in
-    let k10 = label_kept u c.flow_of-flow.result is ready c.mislabelled.result c.in_ok-rule-3.field-0 k9 c.mislabelled.ensures c.in_ok-rule-3.ensures in
-    let k11 = circle_kept u c.flow_of-flow.result is ready c.circular.result c.in_ok-rule-4.field-0 k10 c.circular.ensures c.in_ok-rule-4.ensures in
-    let spans = c.lowest_failing-2.ensures (λ s. span_kept (domains_in u.variables.now) (sentence_in u.rows.now s)) (λ s r b t says. search rules) in
-    exits u.bytes.now u.name (held u) c.from_residual-in_err-rule-5.result c.in_err-rule-5.field-0.0 c.from_residual-in_err-rule-5.ensures.1 (range_first u c.flow_of-flow.result is ready c.lowest_failing-2.result c.in_err-rule-5.field-0.0 k11 spans c.in_err-rule-5.ensures)
+    let k8 = order_kept u c.flow-flow.result is ready c.misplaced.result c.in_ok-rule.field-0 c.misplaced.ensures c.in_ok-rule.ensures in
+    let kinds = c.lowest_failing-wrong_kind.ensures (λ s. kinds_kept (domains_in u.variables.now) (sentence_in u.rows.now s)) (λ s r b t says. search rules) in
+    let k9 = kind_kept u c.flow-flow.result is ready c.lowest_failing-wrong_kind.result c.in_ok-rule-2.field-0 k8 kinds c.in_ok-rule-2.ensures in
+    let k10 = label_kept u c.flow-flow.result is ready c.mislabelled.result c.in_ok-rule-3.field-0 k9 c.mislabelled.ensures c.in_ok-rule-3.ensures in
+    let k11 = circle_kept u c.flow-flow.result is ready c.circular.result c.in_ok-rule-4.field-0 k10 c.circular.ensures c.in_ok-rule-4.ensures in
+    let spans = c.lowest_failing-out_of_span.ensures (λ s. span_kept (domains_in u.variables.now) (sentence_in u.rows.now s)) (λ s r b t says. search rules) in
+    exits u.bytes.now u.name (held u) c.from_residual-in_err-rule-5.result c.in_err-rule-5.field-0.0 c.from_residual-in_err-rule-5.ensures.1 (range_first u c.flow-flow.result is ready c.lowest_failing-out_of_span.result c.in_err-rule-5.field-0.0 k11 spans c.in_err-rule-5.ensures)
 
 pub returns : goal.returns
 returns c =
     let u = c.args.self.now in
-    let is = c.flow_of-flow.ensures in
+    let is = c.flow-flow.ensures in
     let ready = c.if-not-are_readable.ensures in
-    let k8 = order_kept u c.flow_of-flow.result is ready c.misplaced.result c.in_ok-rule.field-0 c.misplaced.ensures c.in_ok-rule.ensures in
-    let kinds = c.lowest_failing.ensures (λ s. kinds_kept (domains_in u.variables.now) (sentence_in u.rows.now s)) (λ s r b t says. search rules) in
-    let k9 = kind_kept u c.flow_of-flow.result is ready c.lowest_failing.result c.in_ok-rule-2.field-0 k8 kinds c.in_ok-rule-2.ensures in
-    let k10 = label_kept u c.flow_of-flow.result is ready c.mislabelled.result c.in_ok-rule-3.field-0 k9 c.mislabelled.ensures c.in_ok-rule-3.ensures in
-    let k11 = circle_kept u c.flow_of-flow.result is ready c.circular.result c.in_ok-rule-4.field-0 k10 c.circular.ensures c.in_ok-rule-4.ensures in
-    let spans = c.lowest_failing-2.ensures (λ s. span_kept (domains_in u.variables.now) (sentence_in u.rows.now s)) (λ s r b t says. search rules) in
-    let k12 = range_kept u c.flow_of-flow.result is ready c.lowest_failing-2.result c.in_ok-rule-5.field-0 k11 spans c.in_ok-rule-5.ensures in
-    let told_all = told u c.flow_of-flow.result is ready c.circular.result c.in_ok-rule-4.field-0 k12 c.circular.ensures c.in_ok-rule-4.ensures c.of.result c.of.ensures in
+    let k8 = order_kept u c.flow-flow.result is ready c.misplaced.result c.in_ok-rule.field-0 c.misplaced.ensures c.in_ok-rule.ensures in
+    let kinds = c.lowest_failing-wrong_kind.ensures (λ s. kinds_kept (domains_in u.variables.now) (sentence_in u.rows.now s)) (λ s r b t says. search rules) in
+    let k9 = kind_kept u c.flow-flow.result is ready c.lowest_failing-wrong_kind.result c.in_ok-rule-2.field-0 k8 kinds c.in_ok-rule-2.ensures in
+    let k10 = label_kept u c.flow-flow.result is ready c.mislabelled.result c.in_ok-rule-3.field-0 k9 c.mislabelled.ensures c.in_ok-rule-3.ensures in
+    let k11 = circle_kept u c.flow-flow.result is ready c.circular.result c.in_ok-rule-4.field-0 k10 c.circular.ensures c.in_ok-rule-4.ensures in
+    let spans = c.lowest_failing-out_of_span.ensures (λ s. span_kept (domains_in u.variables.now) (sentence_in u.rows.now s)) (λ s r b t says. search rules) in
+    let k12 = range_kept u c.flow-flow.result is ready c.lowest_failing-out_of_span.result c.in_ok-rule-5.field-0 k11 spans c.in_ok-rule-5.ensures in
+    let told_all = told u c.flow-flow.result is ready c.circular.result c.in_ok-rule-4.field-0 k12 c.circular.ensures c.in_ok-rule-4.ensures c.of.result c.of.ensures in
     record { checks = subst (Checks u.bytes.now u.name (held u)) (sym c.ok_or.ensures.value) told_all.0; paths = subst (λ r. IfOk r (λ p. steps_in p.flow ≡ steps_of (unit_of u.bytes.now u.name (held u)))) (sym c.ok_or.ensures.value) told_all.1 }
