@@ -1,18 +1,17 @@
 -- How many ways lead on from each statement, clipped.
 use Rattle.std.specs.Prelude.{◌≡◌, ℕ, ◌+◌, ◌<◌, ◌≤◌, min, Bool, true, false, ◌⊎◌, List, length, sum_by, Some, slice_index}
 use Rattle.flow.specs.declared.step.Step.{Step}
-use Rattle.flow.specs.declared.counts.TheConstants.{MOST_PATHS, LIMIT}
 use Rattle.flow.specs.Steps.{OnCircle}
 use Rattle.flow.specs.Paths.{required}
 use Rattle.flow.specs.Numbers.{onward, ways_from, paths}
 
 -- the most paths that a unit may have
 abbrev pub most : ℕ
-most = MOST_PATHS
+most = 65536
 
 -- counts go up to one more
 abbrev pub limit : ℕ
-limit = LIMIT
+limit = 65537
 
 -- the places that pass a test lie from low on and below high
 abbrev pub Enclosed : (ℕ → Bool) → ℕ → ℕ → ℕ → Type 0

@@ -3,6 +3,7 @@
 ghost use Rattle.std.specs.Prelude.{◌≡◌};
 ghost use Rattle.reckoning.specs.Decisions.{decision as decision_of, negated as negated_of, both as both_of, either as either_of};
 
+// No `Option` of a truth, since 'unknown' is an answer and not the want of one.
 #[derive(Clone, Copy, Debug, PartialEq, Eq)]
 pub enum Decision {
     Yes,

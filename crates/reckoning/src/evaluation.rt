@@ -1,6 +1,7 @@
 // Evaluation: the mark of a term, over any reckoning.
 
 ghost use Rattle.std.specs.Prelude.{◌≡◌, ◌-◌, ◌<◌, length, take};
+ghost use Rattle.terms.specs.Terms.{Worked};
 ghost use Rattle.reckoning.specs.Evaluation.{evaluated, Covering};
 
 use super::mark::Mark;
@@ -18,8 +19,7 @@ pub fn evaluate<M: Copy, N: Mentions<M, Mark>, R: Reckoning>(
     working: &mut [Mark],
 ) -> Mark
     ensures mark { result ≡ evaluated (R.meaning reckoning.now) (N.found mentions.now) rows.now (length working.old) }
-    ensures others { take (length working.old - length rows.now) working.new ≡ take (length working.old - length rows.now) working.old }
-    ensures unread { length working.old < length rows.now → working.new ≡ working.old }
+    ensures working { Worked (length rows.now) working.old working.new }
     ensures covering { Covering (R.covers reckoning.now) (N.found mentions.now) rows.now result }
 {
     let marking = Marking {

@@ -1,6 +1,7 @@
 // Points: one number of the span, or any number; the abstract domain of constants.
 
 ghost use Rattle.std.specs.Prelude.{◌≡◌, ◌-◌, ◌<◌, ◌≤◌, true, ◌&&◌, length, take};
+ghost use Rattle.terms.specs.Terms.{Worked};
 ghost use Rattle.reckoning.specs.Points.{is_point, point_holds, point_or, point_number, point_fits, points};
 ghost use Rattle.reckoning.specs.Evaluation.{evaluated};
 ghost use Rattle.reckoning.specs.Exactness.{Exact, Right};
@@ -93,10 +94,8 @@ impl Reckoning for Points {
     fn meet(&self, a: Mark, b: Mark) -> Option<Mark> {
         if !a.is_point() {
             Some(b)
-        } else if holds(b, a.low) {
-            Some(a)
         } else {
-            None
+            holds(b, a.low).then_some(a)
         }
     }
 
@@ -112,8 +111,7 @@ pub fn number_of<M: Copy, N: Mentions<M, Mark>>(
     working: &mut [Mark],
 ) -> Option<i64>
     ensures number { result ≡ point_number (evaluated points (N.found mentions.now) rows.now (length working.old)) }
-    ensures others { take (length working.old - length rows.now) working.new ≡ take (length working.old - length rows.now) working.old }
-    ensures unread { length working.old < length rows.now → working.new ≡ working.old }
+    ensures working { Worked (length rows.now) working.old working.new }
     ensures exact { length rows.now ≤ length working.old → Exact (N.found mentions.now) rows.now result }
     ensures right { Right (N.found mentions.now) rows.now result }
 {

@@ -56,7 +56,7 @@ fn holds(mark: Mark, number: i64) -> bool
     !mark.is_range() || mark.contains(number)
 }
 
-// What a range says of a truth, of which it may hold other numbers too.
+// What a range says of a truth, of which it may hold other numbers too. Points decide by the same words over their own `holds`, and a function over either would be longer.
 fn decision(mark: Mark) -> Decision
     ensures { result ≡ range_decided mark }
 {
@@ -84,7 +84,7 @@ fn unknown(operator: Operator) -> Mark
     }
 }
 
-// Two functions, since one over `min` or `max` would need a closure and a clause on it.
+// By `min` and `max` of two: those of an iterator give an Option, which four numbers never leave empty.
 fn least(p: i128, q: i128, r: i128, s: i128) -> i128
     ensures { result ≡ least4 p q r s }
 {
@@ -135,6 +135,7 @@ fn choice(condition: Decision, a: Mark, b: Mark) -> Mark
 fn overlap(a: Mark, b: Mark) -> Option<Mark>
     ensures { result ≡ overlap_of a b }
 {
+    // By `if`: with `then_some` the search for the proof comes to its limits.
     let low = a.low.max(b.low);
     let high = a.high.min(b.high);
     if low <= high {

@@ -1,6 +1,7 @@
 // Spanning: whether the rows of a term stay in the span, as far as ranges tell.
 
 ghost use Rattle.std.specs.Prelude.{◌≡◌, ◌-◌, ◌<◌, ◌&&◌, length, take, nat_le};
+ghost use Rattle.terms.specs.Terms.{Worked};
 ghost use Rattle.reckoning.specs.Spanning.{ranged_rows};
 
 use super::mark::Mark;
@@ -17,8 +18,7 @@ pub fn stays_in_span<M: Copy, N: Mentions<M, Mark>>(
     working: &mut [Mark],
 ) -> bool
     ensures result { result ≡ (nat_le (length rows.now) (length working.old) && ranged_rows (N.found mentions.now) rows.now) }
-    ensures others { take (length working.old - length rows.now) working.new ≡ take (length working.old - length rows.now) working.old }
-    ensures unread { length working.old < length rows.now → working.new ≡ working.old }
+    ensures working { Worked (length rows.now) working.old working.new }
 {
     if working.len() < rows.len() {
         return false;
@@ -28,6 +28,7 @@ pub fn stays_in_span<M: Copy, N: Mentions<M, Mark>>(
         reckoning: &Ranges,
     };
     let mut stack = Stack::new(working);
+    // A `for`: a chain whose closure reads onto the stack would leave a proof nothing of what was read.
     for row in rows.iter().rev() {
         if !stack.read(&marking, *row).is_ok_and(Mark::is_range) {
             return false;

@@ -1,15 +1,12 @@
 // Every operator over small ranges and points, compared with all choices by brute force.
 
-ghost use Rattle.reckoning.specs.Kinds.{of_sort};
-
 use reckoning::mark::{ANY, Mark};
 use reckoning::points::Points;
 use reckoning::ranges::Ranges;
 use reckoning::reckoning::Reckoning;
 use std::process::Abort;
-use terms::fits::Fits;
 use terms::kind::{Kind, Sort};
-use terms::operator::Operator;
+use terms::operator::{Operands, Operator};
 
 static OPERATORS: [Operator; 25] = [
     Operator::Addi,
@@ -79,14 +76,18 @@ fn operands(operator: Operator, place: usize) -> &'static [Mark] {
     }
 }
 
-// Numbers of the sorts that their places ask for.
-struct Suited;
+fn is_of(sort: Sort, number: i64) -> bool {
+    sort != Sort::Of(Kind::Truth) || number == 0 || number == 1
+}
 
-impl Fits<i64> for Suited {
-    ghost fits = { λ _. of_sort };
-
-    fn fits(&self, sort: Sort, operand: i64) -> bool {
-        sort != Sort::Of(Kind::Truth) || operand == 0 || operand == 1
+// By its own match, so that the trial does not rest on the test of operands that the reckonings rest on.
+fn is_suited(operator: Operator, numbers: [i64; 3]) -> bool {
+    let [x, y, z] = numbers;
+    match operator.signature().operands {
+        Operands::None => true,
+        Operands::One(a) => is_of(a, x),
+        Operands::Two(a, b) => is_of(a, x) && is_of(b, y),
+        Operands::Three(a, b, c) => is_of(a, x) && is_of(b, y) && is_of(c, z),
     }
 }
 
@@ -107,7 +108,7 @@ fn hull(operator: Operator, a: Mark, b: Mark, c: Mark) -> Option<Mark> {
     for x in a.low..=a.high {
         for y in b.low..=b.high {
             for z in c.low..=c.high {
-                if operator.takes(&Suited, x, y, z) {
+                if is_suited(operator, [x, y, z]) {
                     if let Some(number) = operator.compute(x, y, z) {
                         range = Some(widened(range, number));
                     }

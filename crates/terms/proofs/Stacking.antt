@@ -32,11 +32,11 @@ module _ {M X : Type 0} (g : Algebra M X) (rows : List (Row M)) (before : List X
       let whole : onto g row (drop top entries) ≡ fold g (drop (length rows - (n + 1)) rows) = ap (onto g row) held.folded ∙ sym (ap (fold g) (row_next rows n row turn)) in (
         x,
         refl,
-        ap (λ st. slice_get st 0) (sym whole) ∙ read.0,
+        ap (λ st. slice_get st 0) (sym whole) ∙ read.1,
         record {
-          room = omega (arith, held.room, read.1);
-          kept = sym (take-take k (top - 1) after inside) ∙ ap (take k) read.4 ∙ take-take k (top - 1) entries inside ∙ held.kept;
-          folded = read.3 ∙ whole;
+          room = omega (arith, held.room, read.2);
+          kept = sym (take-take k (top - 1) after inside) ∙ ap (take k) read.5 ∙ take-take k (top - 1) entries inside ∙ held.kept;
+          folded = read.4 ∙ whole;
         },
       )
   row_held n row entries after top next (Err _) enough turn held read = absurd (omega (arith, held.room, turn.0, length-reverse rows, read.0))

@@ -36,13 +36,18 @@ Replaced taken x before top (Ok y) after next =
 abbrev pub FoldedRow : {M X : Type 0} → Algebra M X → Row M → List X → ℕ → Result X Full → List X → ℕ → Type 0
 FoldedRow g r before top (Err _) after next = (top ≡ 0) × (after ≡ before) × (next ≡ top)
 FoldedRow g r before top (Ok x) after next =
-    (slice_get (onto g r (drop top before)) 0 ≡ Some x) × (top ≤ next + 1) × (next < length before) × (drop next after ≡ onto g r (drop top before)) × (take (top - 1) after ≡ take (top - 1) before)
+    (0 < top) × (slice_get (onto g r (drop top before)) 0 ≡ Some x) × (top ≤ next + 1) × (next < length before) × (drop next after ≡ onto g r (drop top before)) × (take (top - 1) after ≡ take (top - 1) before)
 
 -- a call reads rows onto a stack that stands from `top` on, at the end of its entries; with fewer entries than rows it does nothing
 abbrev pub Folded : {M X : Type 0} → Algebra M X → List (Row M) → List X → Option ℕ → List X → Type 0
 Folded g rs before None after = (length before < length rs) × (after ≡ before)
 Folded g rs before (Some top) after =
     (length rs ≤ length before) × (top ≤ length after) × (drop top after ≡ fold g rs) × (take (length before - length rs) after ≡ take (length before - length rs) before)
+
+-- a call that works out so many rows in lent entries leaves all but the last of them as they were, and all of them where they are fewer than the rows
+pub record Worked {X : Type 0} (rows : ℕ) (before after : List X) : Type 0 where
+  pub others : take (length before - rows) after ≡ take (length before - rows) before
+  pub unread : length before < rows → after ≡ before
 
 -- what the first row of a term comes to
 abbrev pub outcome : {M X : Type 0} → Algebra M X → List (Row M) → X

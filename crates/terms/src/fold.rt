@@ -1,8 +1,8 @@
 // Folds: the rows of a term read from the last to the first onto a stack.
 
-ghost use Rattle.std.specs.Prelude.{◌≡◌, ◌-◌, ◌<◌, ◌≤◌, length, take, drop, slice_index_or};
+ghost use Rattle.std.specs.Prelude.{◌≡◌, ◌-◌, ◌<◌, ◌≤◌, length, take, drop, MatchOption, slice_index_or};
 ghost use Rattle.std.specs.List.{slice_get};
-ghost use Rattle.terms.specs.Terms.{Algebra, Replaced, FoldedRow, Folded, outcome_in};
+ghost use Rattle.terms.specs.Terms.{Algebra, Replaced, FoldedRow, Folded, Worked, outcome_in};
 
 use super::operator::Operator;
 use super::row::Row;
@@ -34,7 +34,7 @@ pub struct Full;
 #[derive(Drop)]
 pub struct Stack<'a, X> {
     entries: &'a mut [X],
-    top: usize,
+    pub top: usize,
     ghost inside: { top ≤ length entries.now },
 }
 
@@ -47,6 +47,16 @@ impl<'a, X: Copy> Stack<'a, X> {
     {
         let top = entries.len();
         Stack { entries, top }
+    }
+
+    // With the entries from a place on; `None` past their end.
+    pub fn at(entries: &'a mut [X], top: usize) -> Option<Stack<'a, X>>
+        ensures { MatchOption result (length entries.old < top) (λ s. (s.entries.ghost_name ≡ entries.entry.ghost_name) × (s.entries.now ≡ entries.old) × (s.top ≡ top)) }
+    {
+        if top > entries.len() {
+            return None;
+        }
+        Some(Stack { entries, top })
     }
 
     // The entry that stands so many places after the newest.
@@ -129,8 +139,7 @@ pub fn outcome<M: Copy, X: Copy, I: Interpretation<M, X>>(
     entries: &mut [X],
 ) -> X
     ensures value { result ≡ outcome_in (I.algebra interpretation.now) rows.now (length entries.old) }
-    ensures others { take (length entries.old - length rows.now) entries.new ≡ take (length entries.old - length rows.now) entries.old }
-    ensures unread { length entries.old < length rows.now → entries.new ≡ entries.old }
+    ensures working { Worked (length rows.now) entries.old entries.new }
 {
     let newest = fold(interpretation, rows, entries).and_then(|top| entries.get(top).copied());
     newest.unwrap_or(interpretation.absent())

@@ -312,11 +312,6 @@ static READ: [(&'static [u8], [usize; 3]); 17] = [
 static LIMIT: &'static [u8] =
     b"BEGIN Limit\np : (variable (subrange 0 9))\nBREAK (/entry/)\nREQUIRE (gei! (p) (consti! 0)) (/low/)\nPROCLAIM (lei! (p) (consti! 7))\nASSIGN (p) (p) (true!) (addi! (p) (consti! 1))\nREQUIRE (lti! (p) (consti! 8)) (/high/)\nHANG\nEND\n";
 
-const NOWHERE: Span = Span {
-    start: 0,
-    length: 0,
-};
-
 // A record that no reading leaves, to see what is left alone.
 const OLD: Variable = Variable {
     name: Span {
@@ -493,12 +488,12 @@ fn what_the_tables_hold(rt: HostRuntime) -> Result<(), Fail> {
     };
     assert!(rt; outline.name.of(LIMIT) == b"Limit".as_slice());
     assert!(rt; variables[0].name.of(LIMIT) == b"p".as_slice());
-    assert!(rt; matches!(variables[0].domain, Domain::Subrange { low: 0, high: 9 }));
-    assert!(rt; variables[1].name.start == 77);
+    assert_eq!(rt; variables[0].domain, Domain::Subrange { low: 0, high: 9 });
+    assert_eq!(rt; variables[1], OLD);
     assert!(rt; matches!(statements[3], Statement::Assign { variable: 0, .. }));
-    assert!(rt; matches!(statements[6], Statement::Join { label: 9 }));
-    assert!(rt; matches!(rows[12], Row::Constant(8)));
-    assert!(rt; matches!(rows[13], Row::Constant(9)));
+    assert_eq!(rt; statements[6], Statement::Join { label: 9 });
+    assert_eq!(rt; rows[12], Row::Constant(8));
+    assert_eq!(rt; rows[13], Row::Constant(9));
     Ok(())
 }
 
@@ -508,14 +503,7 @@ fn a_refusal_leaves_nothing(rt: HostRuntime) {
     let mut statements = [Statement::Join { label: 9 }; 3];
     let mut rows: [UnitRow; 4] = [Row::Constant(9); 4];
     assert!(rt; read(LIMIT, 0, &mut variables, &mut statements, &mut rows).is_err());
-    for variable in &variables {
-        assert!(rt; variable.name.start == NOWHERE.start && variable.name.length == NOWHERE.length);
-        assert!(rt; matches!(variable.domain, Domain::Integer));
-    }
-    for statement in &statements {
-        assert!(rt; matches!(statement, Statement::Hang));
-    }
-    for row in &rows {
-        assert!(rt; matches!(row, Row::Constant(0)));
-    }
+    assert!(rt; variables == [Variable::default(); 2]);
+    assert!(rt; statements == [Statement::default(); 3]);
+    assert!(rt; rows == [Row::Constant(0); 4]);
 }

@@ -13,8 +13,7 @@ returns g c =
     let number : c.number.result ≡ point_number (evaluated points found rows room) = c.number.ensures ∙ ap point_number c.evaluate.ensures.mark in
     record {
       number = number;
-      others = c.evaluate.ensures.others;
-      unread = c.evaluate.ensures.unread;
+      working = c.evaluate.ensures.working;
       exact = λ enough. subst (Exact found rows) (sym number) (exact found rows room enough);
       right = λ at env k is known told n e. its_number c.evaluate.result n _ (sym c.number.ensures ∙ e) (c.evaluate.ensures.covering at env k is known told);
     }

@@ -19,14 +19,14 @@ returns-then-not-is_ok_and-clause-result g c =
     let lost = step.0 ∙ ap (λ b. b && ranged_rows found (drop (length rows - length c.loop-row.yielded) rows)) c.if-not-is_ok_and.true in
     sym (ap₂ ◌&&◌ (le-leb (length rows) (length c.args.working.now) c.if-working-rows.false) (lost_part found (length rows - (length c.loop-row.yielded + 1)) rows lost))
 
-pub returns-then-not-is_ok_and-clause-others : goal.returns-then-not-is_ok_and-clause-others
-returns-then-not-is_ok_and-clause-others g c =
+pub returns-then-not-is_ok_and-clause-working : goal.returns-then-not-is_ok_and-clause-working
+returns-then-not-is_ok_and-clause-working g c =
     let found = g.N.Mentions.found c.args.mentions.now in
     let rows = c.args.rows.now in
     let turn = YieldsList-turn (YieldsList-from_rev_slice rows (search rules)) c.loop-row.yielded _ c.loop-row.yielded_by _ _ c.in-Some.row c.in-Some.is c.next.ensures.steps in
     let step = ranged_next found rows c.new-stack.result.entries.now (length c.loop-row.yielded) c.in-Some.row.now _ _ _ _ (search rules) turn c.loop-row.invariant.held c.read.result c.is_ok_and.result c.read.ensures.read (search rules) in
     let kept = step.1.kept in
-    search rules
+    record { others = search rules; unread = search rules }
 
 pub loop-row-preserved : goal.loop-row-preserved
 loop-row-preserved g c =
