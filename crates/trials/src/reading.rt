@@ -312,6 +312,15 @@ static READ: [(&'static [u8], [usize; 3]); 17] = [
 static LIMIT: &'static [u8] =
     b"BEGIN Limit\np : (variable (subrange 0 9))\nBREAK (/entry/)\nREQUIRE (gei! (p) (consti! 0)) (/low/)\nPROCLAIM (lei! (p) (consti! 7))\nASSIGN (p) (p) (true!) (addi! (p) (consti! 1))\nREQUIRE (lti! (p) (consti! 8)) (/high/)\nHANG\nEND\n";
 
+// What is left of a record by a refusal.
+const BLANK: Variable = Variable {
+    name: Span {
+        start: 0,
+        length: 0,
+    },
+    domain: Domain::Integer,
+};
+
 // A record that no reading leaves, to see what is left alone.
 const OLD: Variable = Variable {
     name: Span {
@@ -503,7 +512,7 @@ fn a_refusal_leaves_nothing(rt: HostRuntime) {
     let mut statements = [Statement::Join { label: 9 }; 3];
     let mut rows: [UnitRow; 4] = [Row::Constant(9); 4];
     assert!(rt; read(LIMIT, 0, &mut variables, &mut statements, &mut rows).is_err());
-    assert!(rt; variables == [Variable::default(); 2]);
-    assert!(rt; statements == [Statement::default(); 3]);
+    assert!(rt; variables == [BLANK; 2]);
+    assert!(rt; statements == [Statement::Hang; 3]);
     assert!(rt; rows == [Row::Constant(0); 4]);
 }
