@@ -321,9 +321,9 @@ impl Cursor<'_> {
         let place = self.at;
         let word = self.word()?;
         let verb = Verb::find(word.of(self.bytes)).ok_or(Refusal::Missing.at(place))?;
-        if let Some(refusal) = statements.refusal(STATEMENT_LIMIT) {
-            return Err(refusal.at(place));
-        }
+        statements
+            .room(STATEMENT_LIMIT)
+            .map_err(|refusal| refusal.at(place))?;
         self.statement(verb, scope, rows)
     }
 

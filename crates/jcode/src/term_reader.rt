@@ -152,10 +152,7 @@ impl Cursor<'_> {
         if left == 0 {
             return Err(Refusal::Limit.at(place));
         }
-        if let Some(refusal) = rows.refusal(ROW_LIMIT) {
-            return Err(refusal.at(place));
-        }
-        Ok(())
+        rows.room(ROW_LIMIT).map_err(|refusal| refusal.at(place))
     }
 
     // A term up to its operands.
