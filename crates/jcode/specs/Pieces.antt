@@ -1,7 +1,8 @@
 -- The pieces of the notation: what is read at a place of the bytes and the next place, or the refusal and its place.
-use Rattle.std.specs.Prelude.{◌≡◌, ℕ, zero, suc, ◌+◌, ◌-◌, ◌*◌, Bool, true, false, cond, not, ◌&&◌, List, [], ◌∷◌, ◌++◌, take, drop, length, ℤ, pos, neg_ℤ, Some, None, Ok, Err, Option, Result, codes, ◌==◌, nat_eq, nat_le, nat_lt, slice_get, unwrap_or, fold}
+use Rattle.std.specs.Prelude.{◌≡◌, ℕ, zero, suc, ◌+◌, ◌-◌, ◌*◌, Bool, true, false, cond, not, ◌&&◌, List, [], ◌∷◌, ◌++◌, take, drop, length, ℤ, pos, neg_ℤ, Some, None, Ok, Err, Option, Result, codes, ◌==◌, nat_eq, nat_le, nat_lt, slice_get, unsigned_abs, unwrap_or, fold}
 use Rattle.std.specs.Bool.{then_some}
 use Rattle.std.specs.Option.{option_eq}
+use Rattle.terms.specs.Numbers.{greatest as span_greatest}
 use Rattle.terms.specs.Words.{same_word}
 use Rattle.jcode.specs.declared.cursor.Cursor.{Cursor}
 use Rattle.jcode.specs.declared.refusal.ReadFault.{ReadFault}
@@ -121,7 +122,7 @@ read_decimal place low high bytes at =
 
 -- the span's greatest magnitude
 abbrev pub greatest : ℕ
-greatest = 2000000000
+greatest = unsigned_abs span_greatest
 
 abbrev pub read_number : Reader ℤ
 read_number bytes at =

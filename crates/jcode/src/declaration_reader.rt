@@ -152,7 +152,7 @@ impl Cursor<'_> {
         ensures value { Reads (read_entry (full_by (length variables.now.records.now) variable_limit) (nat_le (min (length variables.now.records.now) variable_limit) variables.now.count) (take variables.now.count variables.now.records.now)) self.old result self.new }
         ensures within { OnOk result (variables.now.count < min (length variables.now.records.now) variable_limit) }
     {
-        if let Some(refusal) = variables.refusal(VARIABLE_LIMIT) {
+        if let Err(refusal) = variables.room(VARIABLE_LIMIT) {
             let name = self.name()?;
             return Err(refusal.at(name.start));
         }

@@ -25,7 +25,7 @@ impl Scope<'_> {
     }
 }
 
-// For any variables, listed or mentioned, so no method of a list.
+// Whether a variable is among these: the public word for it, which no reader here calls but others may.
 pub fn contains(variables: &[usize], variable: usize) -> bool
     ensures { result ≡ member variable variables.now }
 {

@@ -26,6 +26,7 @@ pub struct Term {
 }
 
 // The variables that NEW lists, in written order; past the count they are 0.
+// It is Copy, so an array with a count; no invariant ties them, since any tables may be given to the check, which refuses a wrong count itself.
 #[derive(Clone, Copy, Debug, Default, PartialEq, Eq)]
 pub struct Listing {
     pub variables: [usize; LIST_LIMIT],
@@ -39,7 +40,7 @@ impl Listing {
         count: 0,
     };
 
-    // One variable more; a full list stays as it is.
+    // One variable more. A full list stays as it is; who calls this has refused one before.
     pub(super) fn push(&mut self, variable: usize)
         ensures { self.new ≡ pushed self.old variable }
     {

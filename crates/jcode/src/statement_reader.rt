@@ -65,7 +65,7 @@ impl Cursor<'_> {
         Ok(text)
     }
 
-    // As for a text: one function for both, with a closure for the piece, would say no less.
+    // One function for `text_end`, this and `label_after_gap` would take a closure over the cursor and a clause on what it reads, longer than the three.
     #[tactic(auto, unfolding(crate::specs::ReadStatements::read_label_end))]
     fn label_end(&mut self) -> Result<u16, ReadFault>
         ensures { Reads read_label_end self.old result self.new }
@@ -197,6 +197,7 @@ impl Cursor<'_> {
         })
     }
 
+    // This, `proclaim` and `when` are each one production of the notation, read piece by piece, as its reader in the definitions.
     fn require(&mut self, scope: Scope, rows: &mut Table<UnitRow>) -> Result<Statement, ReadFault>
         ensures { Lays (by_verb (scope_of scope.entry) (length rows.old.records.now) rows.old.count verb.Require) self.old rows.old result self.new rows.new }
     {
@@ -321,9 +322,9 @@ impl Cursor<'_> {
         let place = self.at;
         let word = self.word()?;
         let verb = Verb::find(word.of(self.bytes)).ok_or(Refusal::Missing.at(place))?;
-        if let Some(refusal) = statements.refusal(STATEMENT_LIMIT) {
-            return Err(refusal.at(place));
-        }
+        statements
+            .room(STATEMENT_LIMIT)
+            .map_err(|refusal| refusal.at(place))?;
         self.statement(verb, scope, rows)
     }
 

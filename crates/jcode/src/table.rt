@@ -1,7 +1,6 @@
 // Tables: lent slices that are filled from their front.
 
-ghost use Rattle.std.specs.Prelude.{◌≡◌, ◌+◌, ◌<◌, ◌≤◌, min, length, take, nat_le, slice_set};
-ghost use Rattle.std.specs.Bool.{then_some};
+ghost use Rattle.std.specs.Prelude.{◌≡◌, ◌+◌, ◌<◌, ◌≤◌, min, cond, length, take, nat_le, slice_set, Ok, Err};
 ghost use Rattle.jcode.specs.Tables.{full_by};
 
 use super::refusal::Refusal;
@@ -34,17 +33,18 @@ impl<'a, T: Copy> Table<'a, T> {
         self.count += 1;
     }
 
-    // What refuses one record more, if it does: the limit, or that the slice is too short.
-    pub(super) fn refusal(&self, limit: usize) -> Option<Refusal>
-        ensures { result ≡ then_some (nat_le (min (length self.now.records.now) limit) self.now.count) (full_by (length self.now.records.now) limit) }
+    // Room for one record more, or what refuses it: the limit, or that the slice is too short.
+    pub(super) fn room(&self, limit: usize) -> Result<(), Refusal>
+        ensures { result ≡ cond (nat_le (min (length self.now.records.now) limit) self.now.count) (Err (full_by (length self.now.records.now) limit)) (Ok tt) }
     {
-        let room = self.records.len();
-        let refusal = if room < limit {
-            Refusal::Table
+        let length = self.records.len();
+        if self.count < length.min(limit) {
+            Ok(())
+        } else if length < limit {
+            Err(Refusal::Table)
         } else {
-            Refusal::Limit
-        };
-        (self.count >= room.min(limit)).then_some(refusal)
+            Err(Refusal::Limit)
+        }
     }
 
     pub(super) fn filled(&self) -> &[T]

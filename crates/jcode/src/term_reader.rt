@@ -58,6 +58,7 @@ fn operands_after(row: UnitRow) -> usize
     }
 }
 
+// Scope and rows are parameters and no fields of the cursor: most readers leave them alone, and each would have to promise that.
 impl Cursor<'_> {
     // The variable that a name declares.
     #[tactic(auto, using(crate::proofs::Names::position_map))]
@@ -152,10 +153,7 @@ impl Cursor<'_> {
         if left == 0 {
             return Err(Refusal::Limit.at(place));
         }
-        if let Some(refusal) = rows.refusal(ROW_LIMIT) {
-            return Err(refusal.at(place));
-        }
-        Ok(())
+        rows.room(ROW_LIMIT).map_err(|refusal| refusal.at(place))
     }
 
     // A term up to its operands.
@@ -210,7 +208,7 @@ impl Cursor<'_> {
         self.close()
     }
 
-    // So many terms, the first after a gap.
+    // So many terms; the index tells the first apart, ahead of which a gap must stand.
     #[cycle(operands_term)]
     fn operands(
         &mut self,
