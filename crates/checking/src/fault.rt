@@ -48,6 +48,10 @@ impl fmt::Display for CheckFault {
     ghost output = { λ fault. Some (refused fault) };
 
     fn fmt<W: fmt::Write>(&self, f: &mut fmt::Formatter<W>) -> fmt::Result {
-        write!(f, "refused {} {}", self.refusal().number(), self.place())
+        let told = ReadFault {
+            refusal: self.refusal(),
+            place: self.place(),
+        };
+        write!(f, "{}", told)
     }
 }

@@ -81,8 +81,5 @@ fn is_single(stack: &[Option<usize>]) -> bool
 pub fn writes_term<M: Copy>(limit: usize, rows: &[Row<M>], depths: &mut [Option<usize>]) -> bool
     ensures { result ≡ (nat_le (length rows.now) (length depths.old) && writes_term limit rows.now) }
 {
-    let Some(top) = fold(&Nesting { limit }, rows, depths) else {
-        return false;
-    };
-    is_single(&depths[top..])
+    fold(&Nesting { limit }, rows, depths).is_some_and(|top| is_single(&depths[top..]))
 }

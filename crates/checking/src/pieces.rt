@@ -1,6 +1,6 @@
 // Pieces of a unit's tables: which keep the rules of reading.
 
-ghost use Rattle.std.specs.Prelude.{◌≡◌, nat_eq, nat_lt};
+ghost use Rattle.std.specs.Prelude.{◌≡◌, ◌&&◌, nat_eq, nat_le, nat_lt};
 ghost use Rattle.std.specs.List.{list_all};
 ghost use Rattle.checking.specs.Tests.{apart};
 ghost use Rattle.checking.specs.Pieces.{fits as fits_in, is_name, is_text, is_label, is_domain, is_declaration, row_known, is_list};
@@ -15,25 +15,24 @@ use jcode::variable::{Domain, Variable};
 use terms::number::spans;
 use terms::row::Row;
 
-// Whether the span lies within the bytes.
-fn fits(bytes: &[u8], span: Span) -> bool
-    ensures { result ≡ fits_in bytes.now span }
+// Whether the span lies within the bytes and is no longer than the limit.
+fn fits(bytes: &[u8], span: Span, limit: usize) -> bool
+    ensures { result ≡ (fits_in bytes.now span && nat_le span.length limit) }
 {
-    span.start
-        .checked_add(span.length)
-        .is_some_and(|end| end <= bytes.len())
+    let end = span.start.checked_add(span.length);
+    end.is_some_and(|end| end <= bytes.len()) && span.length <= limit
 }
 
 pub(super) fn is_name(bytes: &[u8], span: Span) -> bool
     ensures { result ≡ is_name bytes.now span }
 {
-    fits(bytes, span) && span.length <= NAME_LIMIT && is_word(span.of(bytes))
+    fits(bytes, span, NAME_LIMIT) && is_word(span.of(bytes))
 }
 
 pub(super) fn is_text(bytes: &[u8], span: Span) -> bool
     ensures { result ≡ is_text bytes.now span }
 {
-    fits(bytes, span) && span.length <= TEXT_LIMIT && piece::is_text(span.of(bytes))
+    fits(bytes, span, TEXT_LIMIT) && piece::is_text(span.of(bytes))
 }
 
 pub(super) fn is_label(label: u16) -> bool

@@ -1,7 +1,7 @@
 -- Two places of a step, by the first and what stands behind it.
-use Rattle.std.proofs.Common.{◌≡◌, ℕ, ◌+◌, ◌-◌, ◌<◌, Bool, ◌≢◌, List, length, drop, Decides, take, sym, ap, subst, ◌∙◌, ⊎_elim, arith, length-drop}
+use Rattle.std.proofs.Common.{◌≡◌, ℕ, ◌+◌, ◌-◌, ◌<◌, Bool, false, ◌≢◌, List, Option, None, Some, MatchOption, length, drop, Decides, take, sym, ap, subst, ◌∙◌, ⊎_elim, arith, length-drop}
 use Rattle.std.proofs.lemmas.List.{get_or-drop, take_all}
-use Rattle.std.proofs.lemmas.Bool.{cases_lt}
+use Rattle.std.proofs.lemmas.Bool.{cases_lt, both_ways}
 use Rattle.flow.specs.declared.step.Step.{Step}
 use Rattle.flow.specs.declared.step.Step.TheVariants.{Hang}
 use Rattle.flow.specs.Steps.{at}
@@ -17,3 +17,11 @@ two u s i r e first behind = let rest = subst (λ v. Decides r (Has v s)) (take_
       let k : i + 1 + (h.1 - (i + 1)) ≡ h.1 = omega arith in
       rest.1 (h.1 - (i + 1), omega (arith, length-drop (i + 1) u), get_or-drop (i + 1) u (h.1 - (i + 1)) Hang ∙ ap (at u) k ∙ h.5),
 )
+
+-- the same by what is found, where nothing may be
+pub two_if_found : (u : List Step) (s : Step) {Behind : ℕ → Type 0} (o : Option ℕ) (r : Bool)
+    → MatchOption o ((k : ℕ) → k < length u → at u k ≢ s) (λ i. (at u i ≡ s) × ((k : ℕ) → k < i → at u k ≢ s))
+    → ((i : ℕ) → Behind i → Decides r (Has (take (length u - (i + 1)) (drop (i + 1) u)) s))
+    → MatchOption o (r ≡ false) Behind → Decides r (HasTwo u s)
+two_if_found u s None r none tells found = (λ t. absurd (both_ways r found t), λ h. let l = h.2 in let m = h.3 in absurd (none h.0 (omega arith) h.4))
+two_if_found u s (Some i) r first tells behind = two u s i r first.0 first.1 (tells i behind)

@@ -16,7 +16,7 @@ enum Mark {
     Done,
 }
 
-// A mark for each statement.
+// A mark for each statement; an array, so that no search can fail for want of memory.
 type Marks = [Mark; MOST_STEPS];
 
 impl Mark {

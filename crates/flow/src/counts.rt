@@ -12,7 +12,7 @@ use std::array;
 // The most paths that a unit may have.
 const MOST_PATHS: u32 = 65_536;
 
-// Counts go no further.
+// Counts are clipped here, so that sums never overflow.
 pub(super) const LIMIT: u32 = MOST_PATHS + 1;
 
 // A count for each statement; an array, so that no count can fail for want of memory.

@@ -7,7 +7,7 @@ ghost use Rattle.flow.specs.declared.flow.TheConstants.{MOST_STEPS};
 
 use super::step::Step;
 
-// The most statements that a unit may have.
+// The most statements that a unit may have. Stated here too, since a flow knows no unit: where the two differ, the proof of the check fails.
 pub(super) const MOST_STEPS: usize = 200;
 
 // An array with its count: a flow is Copy, and making one can't fail for want of memory.
@@ -18,7 +18,7 @@ pub struct Flow {
     ghost few: { count ≤ MOST_STEPS },
 }
 
-// A flow has no room for one more step.
+// A flow has no room for one more step. Of its own, since a flow knows no terms, whose stack can be full too.
 #[derive(Clone, Copy, Debug, PartialEq, Eq)]
 pub struct Full;
 

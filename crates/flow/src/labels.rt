@@ -17,10 +17,10 @@ fn has(steps: &[Step], step: Step) -> bool
 fn has_two(steps: &[Step], step: Step) -> bool
     ensures { Decides result (HasTwo steps.now step) }
 {
-    let Some(first) = steps.iter().position(|&other| other == step) else {
-        return false;
-    };
-    has(&steps[first + 1..], step)
+    steps
+        .iter()
+        .position(|&other| other == step)
+        .is_some_and(|first| has(&steps[first + 1..], step))
 }
 
 impl Flow {

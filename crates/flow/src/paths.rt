@@ -90,6 +90,7 @@ impl Paths {
     fn pick(&self, from: Option<usize>, number: u16) -> Option<Turn>
         ensures { Picked (steps_in self.now.flow) from number result }
     {
+        // By a `for`: what is left of the number goes on from place to place.
         let mut left = u32::from(number);
         for j in self.flow.ahead(from).filter(|&j| self.flow.allows(from, j)) {
             let count = self.counts[j];

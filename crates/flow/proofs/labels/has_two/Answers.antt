@@ -1,12 +1,6 @@
-use Rattle.std.proofs.Common.{◌≡◌, ℕ, ◌<◌, ◌≢◌, rules}
-use Rattle.flow.specs.Steps.{at}
-use Rattle.flow.proofs.Labelling.{two}
+use Rattle.std.proofs.Common.{rules}
+use Rattle.flow.proofs.Labelling.{two_if_found}
 use Rattle.flow.proofs.labels.has_two.Goals as goal
 
 pub returns : goal.returns
-returns c =
-    let u = c.args.steps.now in
-    let i = c.in-Some.first in
-    let here : at u i ≡ c.args.step = search rules in
-    let before : (k : ℕ) → k < i → at u k ≢ c.args.step = search rules in
-    two u c.args.step i c.has.result here before c.has.ensures
+returns c = two_if_found c.args.steps.now c.args.step c.position.result c.is_some_and.result (search rules) (λ i q. search rules) c.is_some_and.ensures
