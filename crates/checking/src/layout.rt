@@ -26,7 +26,7 @@ fn is_padded(listing: Listing) -> bool
             .all(|&v| v == 0)
 }
 
-// The place after a statement's terms, if they stand at this place. By its own match: the padding of a list counts as well.
+// The place after a statement's terms, if they stand at this place. By its own match: NEW asks for its list's padding too, of which a list of terms tells nothing.
 fn after_statement(total: usize, used: usize, statement: Statement) -> Option<usize>
     ensures { result ≡ after_statement total used statement }
 {
@@ -52,6 +52,7 @@ impl UnitTables<'_> {
         ensures { result ≡ fills_from (length self.now.rows.now) (Some 0) self.now.statements.now }
     {
         let total = self.rows.len();
+        // By a `for`: a proof has lemmas for what `fold` gives and none for `try_fold`, and a `fold` would go on past a statement that fails.
         let mut used = 0;
         for statement in self.statements {
             let Some(next) = after_statement(total, used, *statement) else {

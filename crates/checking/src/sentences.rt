@@ -23,7 +23,7 @@ impl TermTable<'_> {
             )
     }
 
-    // Whether the statement's texts, labels, lists and terms keep their rules.
+    // Whether the statement's texts, labels, lists and terms keep their rules. By its own match: no two arms ask for the same pieces.
     pub(super) fn keeps(
         &self,
         bytes: &[u8],

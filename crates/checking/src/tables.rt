@@ -71,7 +71,9 @@ impl UnitTables<'_> {
         requires { F.IsAlwaysCallable passes }
         ensures { (p : Statement → Bool) → ((s : _) (r : _) (b : _) (t : _) → F.post passes s r b t → b ≡ p s) → result ≡ position (λ s. not (p s)) self.now.statements.now }
     {
+        // An array, so that no test can fail for want of memory.
         let mut room = [blank; ROW_LIMIT];
+        // By a `for`: the tests change the room, and a chain whose closure changes what it captures leaves a proof nothing of its answers.
         for (place, statement) in self.statements.iter().enumerate() {
             if !passes(*statement, &mut room) {
                 return Some(place);

@@ -27,7 +27,7 @@ pub(super) struct TermTable<'a> {
     ghost few: { length rows.now ≤ ROW_LIMIT },
 }
 
-// An entry for each row of a term.
+// An entry for each row of a term; an array, so that no test can fail for want of memory.
 pub(super) type Room<X> = [X; ROW_LIMIT];
 
 impl TermTable<'_> {
