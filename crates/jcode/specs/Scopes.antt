@@ -4,7 +4,6 @@ use Rattle.std.specs.List.{list_any}
 use Rattle.terms.specs.Words.{same_word}
 use Rattle.jcode.specs.declared.scope.Scope.{Scope as CodeScope}
 use Rattle.jcode.specs.declared.statement.Listing.{Listing}
-use Rattle.jcode.specs.declared.statement.TheConstants.{LIST_LIMIT}
 use Rattle.jcode.specs.declared.variable.Variable.{Variable}
 use Rattle.jcode.specs.Bytes.{slice}
 
@@ -28,7 +27,7 @@ listed_in l = take l.count l.variables
 
 -- one variable more, where there is room
 abbrev pub pushed : Listing → ℕ → Listing
-pushed l v = cond (nat_lt l.count LIST_LIMIT) (record { variables = slice_set l.variables l.count v; count = l.count + 1 }) l
+pushed l v = cond (nat_lt l.count 8) (record { variables = slice_set l.variables l.count v; count = l.count + 1 }) l
 
 abbrev pub scope_of : CodeScope → Scope
 scope_of s = record { names = map (name_in s.bytes.now) s.variables.now; listed = listed_in s.listing }
