@@ -10,7 +10,7 @@ use jcode::statement::Statement;
 use reckoning::mark::Mark;
 
 impl TermTable<'_> {
-    // By its own match: a list of a statement's terms would serve this rule alone, as the others ask more than one thing of its terms.
+    // By its own match: a list of a statement's terms would serve this rule alone, as the others ask unlike things of them, or of what stands beside them.
     pub(super) fn span_kept(&self, statement: Statement, room: &mut Room<Mark>) -> bool
         ensures { result ≡ span_kept (domains_in self.now.types.variables.now) (sentence_in self.now.rows.now statement) }
     {

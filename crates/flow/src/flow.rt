@@ -7,7 +7,7 @@ ghost use Rattle.flow.specs.declared.flow.TheConstants.{MOST_STEPS};
 
 use super::step::Step;
 
-// The most statements that a unit may have. Stated here too, since a flow knows no unit: where the two differ, the proof of the check fails.
+// The most statements that a unit may have. Stated here too, since a flow knows no unit: were it below the limit there, the proof of the check would fail.
 pub(super) const MOST_STEPS: usize = 200;
 
 // An array with its count: a flow is Copy, and making one can't fail for want of memory.
