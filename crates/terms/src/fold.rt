@@ -1,6 +1,6 @@
 // Folds: the rows of a term read from the last to the first onto a stack.
 
-ghost use Rattle.std.specs.Prelude.{◌≡◌, ◌-◌, ◌<◌, ◌≤◌, length, take, drop, MatchOption, slice_index_or};
+ghost use Rattle.std.specs.Prelude.{◌≡◌, ◌-◌, ◌<◌, ◌≤◌, length, take, drop, min, slice_index_or};
 ghost use Rattle.std.specs.List.{slice_get};
 ghost use Rattle.terms.specs.Terms.{Algebra, Replaced, FoldedRow, Folded, Worked, outcome_in};
 
@@ -49,14 +49,14 @@ impl<'a, X: Copy> Stack<'a, X> {
         Stack { entries, top }
     }
 
-    // With the entries from a place on; `None` past their end.
-    pub fn at(entries: &'a mut [X], top: usize) -> Option<Stack<'a, X>>
-        ensures { MatchOption result (length entries.old < top) (λ s. (s.entries.ghost_name ≡ entries.entry.ghost_name) × (s.entries.now ≡ entries.old) × (s.top ≡ top)) }
+    // With the entries from a place on; past their end there are none.
+    pub fn at(entries: &'a mut [X], top: usize) -> Stack<'a, X>
+        ensures same { result.entries.ghost_name ≡ entries.entry.ghost_name }
+        ensures entries { result.entries.now ≡ entries.old }
+        ensures top { result.top ≡ min top (length entries.old) }
     {
-        if top > entries.len() {
-            return None;
-        }
-        Some(Stack { entries, top })
+        let top = top.min(entries.len());
+        Stack { entries, top }
     }
 
     // The entry that stands so many places after the newest.
