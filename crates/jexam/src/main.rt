@@ -72,7 +72,7 @@ fn run(rt: &HostRuntime) -> Result<(), Fault> {
     let mut rows: [UnitRow; ROW_LIMIT] = [Row::Constant(0); ROW_LIMIT];
     let mut stdout = rt.stdout();
     let mut at = 0;
-    // A unit takes a byte at least, so there are no more of them than bytes.
+    // No `while`, since that reading goes forward is no clause of `read`; a unit takes a byte at least, so there are no more of them than bytes.
     for _ in 0..INPUT_LIMIT {
         if at >= bytes.len() {
             break;

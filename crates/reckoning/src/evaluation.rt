@@ -11,7 +11,7 @@ use terms::fold::outcome;
 use terms::mentions::Mentions;
 use terms::row::Row;
 
-// The mark of a term. It reads and writes only the last of the working marks, as many as the term has rows, and leaves the others alone.
+// The mark of a term. It reads and writes only the last of the working marks, as many as the term has rows, and leaves the others alone. The rows, what is known of their mentions and the room have three owners, so they are three parameters.
 pub fn evaluate<M: Copy, N: Mentions<M, Mark>, R: Reckoning>(
     reckoning: &R,
     mentions: &N,
