@@ -27,7 +27,7 @@ fn asked(sort: Sort, shared: Kind) -> Kind
 }
 
 // The kind that places which share a kind share.
-#[derive(Clone, Copy)]
+#[derive(Clone, Copy, Debug, PartialEq, Eq)]
 struct Shared {
     kind: Kind,
 }

@@ -25,6 +25,7 @@ impl UnitTables<'_> {
         ensures checks { Checks self.now.bytes.now self.now.name (held self.now) result }
         ensures paths { IfOk result (λ p. steps_in p.flow ≡ steps_of (unit_of self.now.bytes.now self.now.name (held self.now))) }
     {
+        // A rule of the whole unit is told at place 0, here and for its paths: a refusal always has a place.
         if !self.are_readable() {
             return Err(CheckFault::Rule {
                 refusal: Refusal::Tables,

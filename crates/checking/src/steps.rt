@@ -10,6 +10,7 @@ use flow::flow::Flow;
 use flow::step::Step;
 use jcode::statement::Statement;
 
+// No `From`: both types are of crates below.
 fn step_of(statement: Statement) -> Step
     ensures { result ≡ record_step statement }
 {
@@ -33,6 +34,7 @@ impl UnitTables<'_> {
         ensures { steps_in result ≡ map record_step self.now.statements.now }
     {
         let mut flow = Flow::new();
+        // By a `for`: a chain's closure would change the flow that it captures.
         for statement in self.statements {
             flow.push(step_of(*statement)).unwrap();
         }

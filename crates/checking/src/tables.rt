@@ -20,7 +20,7 @@ use jcode::variable::{VARIABLE_LIMIT, Variable};
 use terms::word::same_word;
 
 // The tables of a unit, with its name and the bytes that both speak of.
-#[derive(Clone, Copy, Debug)]
+#[derive(Clone, Copy, Debug, PartialEq, Eq)]
 pub(super) struct UnitTables<'a> {
     pub(super) bytes: &'a [u8],
     pub(super) name: Span,

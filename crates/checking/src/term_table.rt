@@ -20,7 +20,7 @@ use reckoning::spanning::stays_in_span;
 use terms::kind::Kind;
 
 // The row table that the terms stand in, and the types of what they mention.
-#[derive(Clone, Copy)]
+#[derive(Clone, Copy, Debug, PartialEq, Eq)]
 pub(super) struct TermTable<'a> {
     pub(super) types: Types<'a>,
     pub(super) rows: &'a [UnitRow],

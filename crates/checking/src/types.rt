@@ -15,7 +15,7 @@ pub struct Types<'a> {
     pub variables: &'a [Variable],
 }
 
-// The kind of a type's values.
+// The kind of a type's values. No `From`, here and below: both types are of crates below.
 pub fn domain_kind(domain: Domain) -> Kind
     ensures { result ≡ domain_kind domain }
 {

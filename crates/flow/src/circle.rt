@@ -9,7 +9,7 @@ ghost use Rattle.flow.specs.Circles.{reached as mark_reached, Spread};
 use super::flow::{Flow, MOST_STEPS};
 
 // What is known of a statement while it is found what another one reaches.
-#[derive(Clone, Copy, PartialEq, Eq)]
+#[derive(Clone, Copy, Debug, PartialEq, Eq)]
 enum Mark {
     Unseen,
     Seen,
@@ -33,7 +33,7 @@ impl Mark {
 }
 
 impl Flow {
-    // Marks the successors of a statement as seen.
+    // Marks the successors of a statement as seen. By their places: a chain over the marks would change what it goes over by what stands at two places of the flow.
     fn spread(&self, i: usize, marks: &mut Marks)
         ensures { Spread (steps_in self.now) i marks.old marks.new }
     {

@@ -60,7 +60,7 @@ impl Flow {
         self.count
     }
 
-    // The step at a place; past the last one there is nothing to go on to.
+    // The step at a place; past the last one there is nothing to go on to, so it is HANG and no Option, as the definitions read it.
     pub(super) fn at(&self, i: usize) -> Step
         ensures { result ≡ step_at (steps_in self.now) i }
     {

@@ -15,7 +15,7 @@ pub(super) enum Class {
 }
 
 impl Class {
-    // One match by ranges with a guard is the form that the classes are kept in.
+    // By ranges with a guard, so that each class stands beside the bytes it shares with others.
     pub(super) fn contains(self, byte: u8) -> bool
         ensures { result ≡ in_class self byte }
     {

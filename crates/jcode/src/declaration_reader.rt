@@ -34,6 +34,7 @@ impl DomainWord {
     }
 }
 
+// Each method is one production of the notation, as its reader in the definitions; some have one shape.
 impl Cursor<'_> {
     // A high bound, not below the low one.
     #[tactic(auto, unfolding(crate::specs::ReadUnits::read_high))]

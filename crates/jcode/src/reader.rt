@@ -24,6 +24,7 @@ pub struct Outline {
     pub next: usize,
 }
 
+// A production of the notation like those of the other readers.
 impl Cursor<'_> {
     #[tactic(auto, unfolding(crate::specs::ReadUnits::read_heading))]
     fn heading(&mut self) -> Result<Span, ReadFault>
@@ -37,7 +38,7 @@ impl Cursor<'_> {
     }
 }
 
-// Reads a unit into empty tables; where it is refused, they hold what was read of it.
+// Reads a unit into empty tables; where it is refused, they hold what was read of it. Three tables and no struct of them: only this call has all three.
 fn attempt(
     bytes: &[u8],
     start: usize,

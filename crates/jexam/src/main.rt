@@ -67,6 +67,7 @@ fn run(rt: &HostRuntime) -> Result<(), Fault> {
         };
         return Err(Fault::Refused(fault));
     }
+    // Arrays of the limits: each unit that may be read fits them.
     let mut variables = [Variable::default(); VARIABLE_LIMIT];
     let mut statements = [Statement::default(); STATEMENT_LIMIT];
     let mut rows: [UnitRow; ROW_LIMIT] = [Row::Constant(0); ROW_LIMIT];
