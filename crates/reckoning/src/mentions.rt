@@ -6,7 +6,7 @@ use super::mark::Mark;
 use terms::mentions::Mentions;
 
 // The marks of cells.
-#[derive(Clone, Copy, Debug, PartialEq, Eq)]
+#[derive(Clone, Copy, Debug)]
 pub struct Cells<'a> {
     pub marks: &'a [Mark],
 }

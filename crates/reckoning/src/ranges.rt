@@ -84,7 +84,7 @@ fn unknown(operator: Operator) -> Mark
     }
 }
 
-// Two functions, by `min` and `max` of two: one over either order would be longer, and those of an iterator give an Option, which four numbers never leave empty.
+// By `min` and `max` of two: those of an iterator give an Option, which four numbers never leave empty.
 fn least(p: i128, q: i128, r: i128, s: i128) -> i128
     ensures { result ≡ least4 p q r s }
 {

@@ -21,12 +21,12 @@ pub trait Interpretation<M, X> {
     fn operator(&self, operator: Operator, a: X, b: X, c: X) -> X
         ensures { result ≡ (algebra self.now).operator operator a b c };
 
-    // What stands for an operand that is not there: an entry and no Option, as the definition of terms has it.
+    // What stands for an operand that is not there.
     fn absent(&self) -> X
         ensures { result ≡ (algebra self.now).absent };
 }
 
-// There is no room on a stack. Of its own: a flow of steps, which fills as well, knows no terms.
+// There is no room on a stack.
 #[derive(Clone, Copy, Debug, PartialEq, Eq)]
 pub struct Full;
 
@@ -126,7 +126,6 @@ pub fn fold<M: Copy, X: Copy, I: Interpretation<M, X>>(
         return None;
     }
     let mut stack = Stack::new(entries);
-    // A `for`: a chain's closure would change the stack that it captures.
     for row in rows.iter().rev() {
         stack.read(interpretation, *row).ok()?;
     }
