@@ -1,0 +1,6 @@
+// Sheets: the condition of a path, what falsifies it, who judges it, and how it matches the runs of a unit.
+#![tactic(auto)]
+
+pub mod cell;
+pub mod judge;
+pub mod part;
