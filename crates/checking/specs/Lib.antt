@@ -10,3 +10,6 @@ pub mod Faults
 pub mod Breaks
 pub mod Steps
 pub mod Held
+pub mod CheckedUnits
+pub mod ReadChecks
+pub mod Lines

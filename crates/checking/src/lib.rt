@@ -2,10 +2,12 @@
 #![tactic(auto)]
 
 mod apart;
+pub mod checked;
 pub mod fault;
 pub mod kinding;
 mod kinds;
 mod layout;
+pub mod line;
 pub mod nesting;
 mod pieces;
 mod rules;
@@ -16,3 +18,4 @@ mod tables;
 pub mod term;
 mod term_table;
 pub mod types;
+pub mod unit;

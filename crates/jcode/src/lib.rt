@@ -4,7 +4,6 @@
 mod class;
 mod cursor;
 mod declaration_reader;
-pub mod line;
 pub mod mention;
 pub mod piece;
 pub mod reader;

@@ -1,13 +1,14 @@
-// jexam: reads units from standard input and writes a line for each.
+// jexam: reads units from standard input, checks them, and writes a line for each.
 #![tactic(auto)]
 
 ghost use Rattle.std.specs.Prelude.{◌≡◌};
 ghost use Rattle.jexam.specs.declared.Fault.TheVariants.{Refused};
 
 use anyhow::anyhow;
-use jcode::line::line;
+use checking::checked::read_and_check;
+use checking::fault::CheckFault;
+use checking::line::line;
 use jcode::mention::{ROW_LIMIT, UnitRow};
-use jcode::reader::read;
 use jcode::refusal::{ReadFault, Refusal};
 use jcode::statement::{STATEMENT_LIMIT, Statement};
 use jcode::variable::{VARIABLE_LIMIT, Variable};
@@ -23,15 +24,15 @@ const INPUT_LIMIT: usize = 65_536;
 // Why the program stops: what it was given is refused, or the machine fails it.
 #[derive(Drop)]
 enum Fault {
-    Refused(ReadFault),
+    Refused(CheckFault),
     Memory(AllocError),
     Device(io::Error),
 }
 
-impl From<ReadFault> for Fault {
+impl From<CheckFault> for Fault {
     ghost from_gives = { λ fault r. r ≡ Refused fault };
 
-    fn from(value: ReadFault) -> Fault {
+    fn from(value: CheckFault) -> Fault {
         Fault::Refused(value)
     }
 }
@@ -65,7 +66,7 @@ fn run(rt: &HostRuntime) -> Result<(), Fault> {
             refusal: Refusal::Limit,
             place: INPUT_LIMIT,
         };
-        return Err(Fault::Refused(fault));
+        return Err(CheckFault::from(fault).into());
     }
     // Arrays of the limits: each unit that may be read fits them.
     let mut variables = [Variable::default(); VARIABLE_LIMIT];
@@ -78,10 +79,10 @@ fn run(rt: &HostRuntime) -> Result<(), Fault> {
         if at >= bytes.len() {
             break;
         }
-        let outline = read(&bytes, at, &mut variables, &mut statements, &mut rows)?;
-        let text = line(rt.alloc(), &bytes, outline)?;
+        let checked = read_and_check(&bytes, at, &mut variables, &mut statements, &mut rows)?;
+        let text = line(rt.alloc(), &bytes, checked)?;
         stdout.write_all(&text)?;
-        at = outline.next;
+        at = checked.outline.next;
     }
     Ok(())
 }
