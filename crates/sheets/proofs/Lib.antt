@@ -1,1 +1,5 @@
-
+pub mod Substituting
+pub mod Storing
+pub mod Typing
+pub mod Parts
+pub mod Matching
