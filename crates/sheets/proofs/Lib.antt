@@ -3,3 +3,4 @@ pub mod Storing
 pub mod Typing
 pub mod Parts
 pub mod Matching
+pub mod Running

@@ -1,16 +1,16 @@
 -- The valuations that falsify a path's sheet are its failing runs.
-use Rattle.std.proofs.Common.{◌≡◌, ◌↔◌, ℕ, zero, suc, ◌+◌, ◌*◌, ◌<◌, Bool, true, false, List, [], ◌∷◌, ◌++◌, map, length, get_or, drop, ℤ, pos, refl, sym, ap, ◌∙◌, subst, arith, true≢false, length-append}
-use Rattle.std.proofs.lemmas.List.{length-map, append-nil, drop_at}
-use Rattle.terms.specs.Terms.{value}
-use Rattle.flow.specs.Steps.{at, is_require}
+use Rattle.std.proofs.Common.{◌≡◌, ◌↔◌, ℕ, zero, suc, ◌*◌, ◌<◌, true, List, [], ◌∷◌, ◌++◌, map, length, get_or, drop, ℤ, pos, None, refl, sym, ap, ◌∙◌, subst, arith, length-append}
+use Rattle.std.proofs.lemmas.List.{length-map, drop_at}
+use Rattle.flow.specs.Steps.{at, is_break, is_require}
 use Rattle.flow.specs.declared.step.Step.TheVariants as step
 use Rattle.flow.specs.Paths.{required, Way, Path}
-use Rattle.jcode.specs.Sentences.{Sentence, Hang, Break, Require, Proclaim, New, Assign, Split, When, Branch, Join}
+use Rattle.flow.proofs.Leading.{never}
+use Rattle.jcode.specs.Sentences.{Sentence, Hang, Require, When}
 use Rattle.jcode.specs.Units.{JUnit}
 use Rattle.checking.specs.Breaks.{step_of, steps_of}
 use Rattle.checking.specs.Types.{domains}
-use Rattle.sheets.specs.Runs.{sentence, are_of, with_shadows, types_at, Fitting, stored, listed, Admits, Demands, Goes, FailsAt, FailsAlong}
-use Rattle.sheets.specs.PathSheets.{Progress, cell_of, cells_from, moved, parts_of, cells_of, onward, parts_along, cells_along, started, sheet_of}
+use Rattle.sheets.specs.Runs.{sentence, are_of, with_shadows, types_at, Fitting, stored, listed, Admits, Demands, FailsAt, FailsAlong}
+use Rattle.sheets.specs.PathSheets.{Progress, cell_of, cells_from, parts_of, cells_of, onward, parts_along, cells_along, started, sheet_of}
 use Rattle.sheets.specs.Sheets.{CellTerm}
 use Rattle.sheets.specs.Valuations.{cell_in, is_within, GoalAloneFalse, Falsifies}
 use Rattle.sheets.specs.Matches.{Sensible, terms_kept}
@@ -41,16 +41,8 @@ before_parts v es (f ∷ fs) h = before_goal v es f fs
 
 -- a REQUIRE gives a part, so a path's sheet has a goal
 a_part : {T : Type 0} (w : Progress) (st : Sentence T) → is_require (step_of st) ≡ true → 0 < length (parts_of w st)
-a_part w Hang e = absurd (true≢false (sym e))
-a_part w (Break t) e = absurd (true≢false (sym e))
 a_part w (Require c t) e = omega arith
-a_part w (Proclaim c) e = absurd (true≢false (sym e))
-a_part w (New vs c t) e = absurd (true≢false (sym e))
-a_part w (Assign v c f) e = absurd (true≢false (sym e))
-a_part w (Split l) e = absurd (true≢false (sym e))
-a_part w (When c l) e = absurd (true≢false (sym e))
-a_part w (Branch t l) e = absurd (true≢false (sym e))
-a_part w (Join l) e = absurd (true≢false (sym e))
+a_part w st e = never e
 
 require_at : (u : JUnit) (i : ℕ) → required (steps_of u) i ≡ true → is_require (step_of (sentence u i)) ≡ true
 require_at u i e = sym (ap is_require (step_here u i)) ∙ e
@@ -63,7 +55,7 @@ some_part u w i (j ∷ rest) h =
 
 none_within : (v : List ℤ) → is_within [] v ≡ true → v ≡ []
 none_within [] h = refl
-none_within (x ∷ v) h = absurd (true≢false (sym h))
+none_within (x ∷ v) h = never h
 
 module _ (u : JUnit) (sensible : Sensible u) (v : List ℤ) where
   abbrev count : ℕ
@@ -79,18 +71,10 @@ module _ (u : JUnit) (sensible : Sensible u) (v : List ℤ) where
   -- the last REQUIRE of a path is the goal
   at_goal : {T : Type 0} (w : Progress) (st : Sentence T) (given : List ℤ) → length w.current ≡ 2 * count → terms_kept count st ≡ true → is_require (step_of st) ≡ true
       → ((is_within (cells_of u w st ++ []) given ≡ true) × GoalAloneFalse v (parts_of w st ++ [])) ↔ (Admits st (store w) × ((given ≡ []) × FailsAt st (store w)))
-  at_goal w Hang given l h e = absurd (true≢false (sym e))
-  at_goal w (Break t) given l h e = absurd (true≢false (sym e))
   at_goal w (Require c t) given l h e =
       let q = number_over v count [] w.current w.current c l l h in
       (λ a. (tt, (none_within given a.0, sym q ∙ a.1)), λ f. (ap (is_within []) f.1.0, q ∙ f.1.1))
-  at_goal w (Proclaim c) given l h e = absurd (true≢false (sym e))
-  at_goal w (New vs c t) given l h e = absurd (true≢false (sym e))
-  at_goal w (Assign x c f) given l h e = absurd (true≢false (sym e))
-  at_goal w (Split x) given l h e = absurd (true≢false (sym e))
-  at_goal w (When c x) given l h e = absurd (true≢false (sym e))
-  at_goal w (Branch t x) given l h e = absurd (true≢false (sym e))
-  at_goal w (Join x) given l h e = absurd (true≢false (sym e))
+  at_goal w st given l h e = never e
 
   -- past a statement that gives the numbers `now`
   module _ (w : Progress) (i : ℕ) (now later : List ℤ) (rest : drop w.cells v ≡ now ++ later) (typed : are_of (types_at u (listed (sentence u i))) now ≡ true) where
@@ -120,27 +104,73 @@ module _ (u : JUnit) (sensible : Sensible u) (v : List ℤ) where
       let st = sentence u i in
       let next = onward w st in
       let says = parts_say v count w st l (sensible.terms i) in
-      let join = before_parts v (parts_of w st) (parts_along u next (j ∷ rest)) (some_part u next j rest way.2) in
-      (λ a.
-        let c = within_cut (cells_of u w st) (cells_along u next (j ∷ rest)) given a.0 in
-        let typed = sym (within_cells_of u w st c.0) ∙ c.3 in
-        let e = d ∙ c.2 in
-        let t = join.0 a.1 in
-        let here = says.0 t.0 in
-        let f = (along j rest next c.1 way.2 (length_after w i l) (rest_after w i c.0 c.1 e typed)).0 (c.4, t.1) in
-        (here.0, (c.0, c.1, store next, c.2, record {
-          acts = record { typed = typed; demanded = subst (Demands st (store w)) (own w i c.0 c.1 e typed) here.1; after = store_after w i c.0 c.1 e typed };
-          next = way.0;
-          admitted = f.0;
-        }, f.1)),
+      let join = before_parts v (parts_of w st) (parts_along u next (j ∷ rest)) (some_part u next j rest way.2) in (
+        λ a.
+            let c = within_cut (cells_of u w st) (cells_along u next (j ∷ rest)) given a.0 in
+            let typed = sym (within_cells_of u w st c.0) ∙ c.3 in
+            let e = d ∙ c.2 in
+            let t = join.0 a.1 in
+            let here = says.0 t.0 in
+            let f = (along j rest next c.1 way.2 (length_after w i l) (rest_after w i c.0 c.1 e typed)).0 (c.4, t.1) in (
+              here.0,
+              (
+                c.0,
+                c.1,
+                store next,
+                c.2,
+                record {
+                  acts = record { typed = typed; demanded = subst (Demands st (store w)) (own w i c.0 c.1 e typed) here.1; after = store_after w i c.0 c.1 e typed };
+                  next = way.0;
+                  admitted = f.0;
+                },
+                f.1,
+              ),
+            ),
+        λ f.
+            let now = f.1.0 in
+            let later = f.1.1 in
+            let g = f.1.4 in
+            let typed = g.acts.typed in
+            let e = d ∙ f.1.3 in
+            let same : f.1.2 ≡ store next = g.acts.after ∙ sym (store_after w i now later e typed) in
+            let a = (along j rest next later way.2 (length_after w i l) (rest_after w i now later e typed)).1 (subst (Admits (sentence u j)) same g.admitted, subst (λ s. FailsAlong u (j ∷ rest) s later) same f.1.5) in
+            let here = says.1 (f.0, subst (Demands st (store w)) (sym (own w i now later e typed)) g.acts.demanded) in (
+              ap (is_within (cells_of u w st ++ cells_along u next (j ∷ rest))) f.1.3 ∙ within_append (cells_of u w st) (cells_along u next (j ∷ rest)) now later (within_cells_of u w st now ∙ typed) a.0,
+              join.1 (here, a.1),
+            ),
+      )
+
+length-domains : (u : JUnit) → length (domains u) ≡ length u.variables
+length-domains u = length-map u.variables (λ d. d.domain)
+
+-- as many start cells as there are numbers in a store
+length-start : (u : JUnit) → length (map (cell_of None) (with_shadows (domains u))) ≡ 2 * length u.variables
+length-start u = length-map (with_shadows (domains u)) (cell_of None) ∙ length-with_shadows (domains u) ∙ ap (λ n. 2 * n) (length-domains u)
+
+-- a run starts at a BREAK, which any run may come to
+admits_break : {T : Type 0} (st : Sentence T) (s : List ℤ) → step_of st ≡ step.Break → Admits st s
+admits_break (When c l) s e = never (ap is_break e)
+admits_break st s e = tt
+
+pub both_ways : (u : JUnit) → Sensible u → (p : List ℕ) → Path (steps_of u) p → (start given : List ℤ) → length start ≡ 2 * length u.variables
+    → Falsifies (sheet_of u p) (start ++ given) ↔ (Fitting u start × FailsAlong u p start given)
+both_ways u sensible [] path start given l = absurd path
+both_ways u sensible (i ∷ rest) path start given l =
+    let first = map (cell_of None) (with_shadows (domains u)) in
+    let more = cells_along u (started u) (i ∷ rest) in
+    let held : looked (start ++ given) (pos 0) (cells_from 0 u.variables) ≡ start = looked_next (start ++ given) (pos 0) 0 u.variables start given refl l in
+    let r = along u sensible (start ++ given) i rest (started u) given path.1 (length-cells_from 0 u.variables) (drop_at start given (2 * length u.variables) l) in
+    let admitted : Admits (sentence u i) start = admits_break (sentence u i) start (sym (step_here u i) ∙ path.0) in (
       λ f.
-        let now = f.1.0 in
-        let later = f.1.1 in
-        let g = f.1.4 in
-        let typed = g.acts.typed in
-        let e = d ∙ f.1.3 in
-        let same : f.1.2 ≡ store next = g.acts.after ∙ sym (store_after w i now later e typed) in
-        let a = (along j rest next later way.2 (length_after w i l) (rest_after w i now later e typed)).1 (subst (Admits (sentence u j)) same g.admitted, subst (λ s. FailsAlong u (j ∷ rest) s later) same f.1.5) in
-        let here = says.1 (f.0, subst (Demands st (store w)) (sym (own w i now later e typed)) g.acts.demanded) in
-        (ap (is_within (cells_of u w st ++ cells_along u next (j ∷ rest))) f.1.3 ∙ within_append (cells_of u w st) (cells_along u next (j ∷ rest)) now later (within_cells_of u w st now ∙ typed) a.0,
-        join.1 (here, a.1)))
+          let w = within_split first more start given (l ∙ sym (length-start u)) f.0 in
+          (sym (within_typed (with_shadows (domains u)) start) ∙ w.0, subst (λ s. FailsAlong u (i ∷ rest) s given) held (r.0 (w.1, f.1)).1),
+      λ f.
+          let a = r.1 (subst (λ s. Admits (sentence u i) s × FailsAlong u (i ∷ rest) s given) (sym held) (admitted, f.1)) in
+          (within_append first more start given (within_typed (with_shadows (domains u)) start ∙ f.0) a.0, a.1),
+    )
+
+pub spelled_out : (u : JUnit) (p : List ℕ) (v : List ℤ) → Falsifies (sheet_of u p) v → (start : List ℤ) × (given : List ℤ) × (v ≡ start ++ given) × (length start ≡ 2 * length u.variables)
+spelled_out u p v f =
+    let first = map (cell_of None) (with_shadows (domains u)) in
+    let c = within_cut first (cells_along u (started u) p) v f.0 in
+    (c.0, c.1, c.2, length-within first c.0 c.3 ∙ length-start u)

@@ -1,10 +1,10 @@
 -- Terms with other mentions in them.
-use Rattle.std.proofs.Common.{◌≡◌, ℕ, ◌<◌, Bool, true, ◌&&◌, List, [], ◌∷◌, ℤ, refl, sym, ap, ◌∙◌}
+use Rattle.std.proofs.Common.{◌≡◌, ℕ, ◌<◌, true, List, [], ◌∷◌, refl, ap}
 use Rattle.std.proofs.lemmas.Bool.{and_parts, ltb-true}
 use Rattle.std.specs.List.{list_all}
 use Rattle.terms.specs.declared.row.Row.{Row}
 use Rattle.terms.specs.declared.row.Row.TheVariants.{Constant, Mention, Operator as Applied}
-use Rattle.terms.specs.Terms.{Algebra, onto, fold, value, map_mentions}
+use Rattle.terms.specs.Terms.{Algebra, onto, fold, map_mentions}
 use Rattle.reckoning.specs.Evaluation.{Mentions}
 use Rattle.jcode.specs.ReadTerms.{UnitRow}
 use Rattle.checking.specs.Pieces.{row_known}

@@ -1,11 +1,12 @@
 -- Numbers of their types, and within the bounds of cells.
-use Rattle.std.proofs.Common.{◌≡◌, ℕ, suc, ◌*◌, Bool, true, ◌&&◌, List, [], ◌∷◌, ◌++◌, map, length, ℤ, Some, None, Option, refl, sym, ap, ◌∙◌, arith, true≢false}
+use Rattle.std.proofs.Common.{◌≡◌, ℕ, suc, ◌*◌, true, ◌&&◌, List, [], ◌∷◌, ◌++◌, map, length, ℤ, None, refl, ap, ◌∙◌, arith}
 use Rattle.std.proofs.lemmas.Bool.{and_parts, and_from}
 use Rattle.reckoning.specs.Ranges.{between, within}
+use Rattle.flow.proofs.Leading.{never}
 use Rattle.jcode.specs.declared.variable.Domain.{Domain}
-use Rattle.jcode.specs.Sentences.{Sentence, Hang, Break, Require, Proclaim, New, Assign, Split, When, Branch, Join}
+use Rattle.jcode.specs.Sentences.{Sentence, New}
 use Rattle.jcode.specs.Units.{JUnit}
-use Rattle.checking.specs.Types.{domains, domain_bounds}
+use Rattle.checking.specs.Types.{domain_bounds}
 use Rattle.sheets.specs.declared.cell.Cell.{Cell}
 use Rattle.sheets.specs.Runs.{are_of, with_shadows, types_at, listed}
 use Rattle.sheets.specs.PathSheets.{Progress, cell_of, cells_of}
@@ -14,20 +15,20 @@ use Rattle.sheets.specs.Valuations.{is_within}
 -- ---- within the bounds of cells that stand one after another
 pub length-within : (cs : List Cell) (v : List ℤ) → is_within cs v ≡ true → length v ≡ length cs
 length-within [] [] h = refl
-length-within [] (x ∷ v) h = absurd (true≢false (sym h))
-length-within (c ∷ cs) [] h = absurd (true≢false (sym h))
+length-within [] (x ∷ v) h = never h
+length-within (c ∷ cs) [] h = never h
 length-within (c ∷ cs) (x ∷ v) h = ap suc (length-within cs v (and_parts _ _ h).1)
 
 pub within_append : (cs ds : List Cell) (v w : List ℤ) → is_within cs v ≡ true → is_within ds w ≡ true → is_within (cs ++ ds) (v ++ w) ≡ true
 within_append [] ds [] w h k = k
-within_append [] ds (x ∷ v) w h k = absurd (true≢false (sym h))
-within_append (c ∷ cs) ds [] w h k = absurd (true≢false (sym h))
+within_append [] ds (x ∷ v) w h k = never h
+within_append (c ∷ cs) ds [] w h k = never h
 within_append (c ∷ cs) ds (x ∷ v) w h k = let p = and_parts _ _ h in and_from _ _ p.0 (within_append cs ds v w p.1 k)
 
 -- a valuation of them is cut in two
 pub within_cut : (cs ds : List Cell) (v : List ℤ) → is_within (cs ++ ds) v ≡ true → (now : List ℤ) × (later : List ℤ) × (v ≡ now ++ later) × (is_within cs now ≡ true) × (is_within ds later ≡ true)
 within_cut [] ds v h = ([], v, refl, refl, h)
-within_cut (c ∷ cs) ds [] h = absurd (true≢false (sym h))
+within_cut (c ∷ cs) ds [] h = never h
 within_cut (c ∷ cs) ds (x ∷ v) h =
     let p = and_parts _ _ h in
     let r = within_cut cs ds v p.1 in
@@ -53,16 +54,8 @@ unset_all [] = refl
 unset_all (d ∷ ds) = ap (λ cs. cell_of None d ∷ cs) (unset_all ds)
 
 pub unset_cells_of : {T : Type 0} (u : JUnit) (w : Progress) (st : Sentence T) → map unset (cells_of u w st) ≡ map (cell_of None) (types_at u (listed st))
-unset_cells_of u w Hang = refl
-unset_cells_of u w (Break t) = refl
-unset_cells_of u w (Require e t) = refl
-unset_cells_of u w (Proclaim e) = refl
 unset_cells_of u w (New vs e t) = unset_all (types_at u vs)
-unset_cells_of u w (Assign x e f) = refl
-unset_cells_of u w (Split l) = refl
-unset_cells_of u w (When e l) = refl
-unset_cells_of u w (Branch t l) = refl
-unset_cells_of u w (Join l) = refl
+unset_cells_of u w st = refl
 
 within_unset : (cs : List Cell) (v : List ℤ) → is_within cs v ≡ is_within (map unset cs) v
 within_unset [] v = refl
@@ -81,8 +74,8 @@ within_cells_of u w st v = within_unset (cells_of u w st) v ∙ ap (λ cs. is_wi
 -- ---- two numbers for each variable
 pub length-are_of : (ds : List Domain) (v : List ℤ) → are_of ds v ≡ true → length v ≡ length ds
 length-are_of [] [] h = refl
-length-are_of [] (x ∷ v) h = absurd (true≢false (sym h))
-length-are_of (d ∷ ds) [] h = absurd (true≢false (sym h))
+length-are_of [] (x ∷ v) h = never h
+length-are_of (d ∷ ds) [] h = never h
 length-are_of (d ∷ ds) (x ∷ v) h = ap suc (length-are_of ds v (and_parts _ _ h).1)
 
 pub length-with_shadows : (ds : List Domain) → length (with_shadows ds) ≡ 2 * length ds
