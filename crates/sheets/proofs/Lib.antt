@@ -1,1 +1,6 @@
-
+pub mod Substituting
+pub mod Storing
+pub mod Typing
+pub mod Parts
+pub mod Matching
+pub mod Running

@@ -1,3 +1,6 @@
 pub mod Sheets
 pub mod Valuations
 pub mod Judges
+pub mod Runs
+pub mod PathSheets
+pub mod Matches
