@@ -1,6 +1,9 @@
+pub mod Faults
 pub mod Sheets
+pub mod Tables
 pub mod Valuations
 pub mod Judges
 pub mod Runs
 pub mod PathSheets
 pub mod Matches
+pub mod Places
