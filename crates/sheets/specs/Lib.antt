@@ -6,4 +6,5 @@ pub mod Judges
 pub mod Runs
 pub mod PathSheets
 pub mod Matches
+pub mod Settling
 pub mod Places

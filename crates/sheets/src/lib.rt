@@ -2,7 +2,9 @@
 #![tactic(auto)]
 
 pub mod cell;
+pub mod desk;
 pub mod fault;
 pub mod judge;
+pub mod outcome;
 pub mod part;
 pub mod sheet;
