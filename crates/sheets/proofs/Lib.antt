@@ -4,3 +4,7 @@ pub mod Typing
 pub mod Parts
 pub mod Matching
 pub mod Running
+pub mod Numbered
+pub mod Extending
+pub mod Writing
+pub mod Adding

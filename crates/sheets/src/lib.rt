@@ -2,9 +2,12 @@
 #![tactic(auto)]
 
 pub mod cell;
+mod current;
 pub mod desk;
 pub mod fault;
 pub mod judge;
 pub mod outcome;
+mod page;
 pub mod part;
 pub mod sheet;
+mod writer;
