@@ -4,3 +4,4 @@ pub mod Typing
 pub mod Parts
 pub mod Matching
 pub mod Running
+pub mod Sensing
