@@ -5,3 +5,4 @@ pub mod Parts
 pub mod Matching
 pub mod Running
 pub mod Sensing
+pub mod Deepening
