@@ -6,3 +6,4 @@ pub mod Matching
 pub mod Running
 pub mod Sensing
 pub mod Deepening
+pub mod Placing
