@@ -1,5 +1,5 @@
 -- What nests at most 32 deep, and `equal!` of a cell and such a term.
-use Rattle.std.proofs.Common.{◌≡◌, ℕ, zero, suc, ◌+◌, ◌<◌, max, Bool, true, false, cond, ltb, List, [], ◌∷◌, length, get_or, drop, Some, None, Option, refl, sym, ap, ap₂, ◌∙◌, arith, is_some, length-drop}
+use Rattle.std.proofs.Common.{◌≡◌, ℕ, suc, ◌+◌, ◌<◌, max, Bool, true, false, cond, ltb, List, [], ◌∷◌, length, get_or, Some, None, Option, refl, ap, ap₂, ◌∙◌, arith, is_some, length-drop}
 use Rattle.std.proofs.lemmas.Bool.{lt-ltb, ltb-true}
 use Rattle.terms.specs.declared.operator.Operator.TheVariants.{Equal}
 use Rattle.terms.specs.declared.operator.Operands.{Operands}

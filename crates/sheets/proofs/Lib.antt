@@ -7,3 +7,6 @@ pub mod Running
 pub mod Sensing
 pub mod Deepening
 pub mod Placing
+pub mod Fitting
+pub mod Setting
+pub mod Keeping

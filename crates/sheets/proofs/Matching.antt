@@ -44,7 +44,7 @@ a_part : {T : Type 0} (w : Progress) (st : Sentence T) → is_require (step_of s
 a_part w (Require c t) e = omega arith
 a_part w st e = never e
 
-require_at : (u : JUnit) (i : ℕ) → required (steps_of u) i ≡ true → is_require (step_of (sentence u i)) ≡ true
+pub require_at : (u : JUnit) (i : ℕ) → required (steps_of u) i ≡ true → is_require (step_of (sentence u i)) ≡ true
 require_at u i e = sym (ap is_require (step_here u i)) ∙ e
 
 pub some_part : (u : JUnit) (w : Progress) (i : ℕ) (rest : List ℕ) → Way (required (steps_of u)) (steps_of u) i rest → 0 < length (parts_along u w (i ∷ rest))
@@ -144,7 +144,7 @@ length-domains : (u : JUnit) → length (domains u) ≡ length u.variables
 length-domains u = length-map u.variables (λ d. d.domain)
 
 -- as many start cells as there are numbers in a store
-length-start : (u : JUnit) → length (map (cell_of None) (with_shadows (domains u))) ≡ 2 * length u.variables
+pub length-start : (u : JUnit) → length (map (cell_of None) (with_shadows (domains u))) ≡ 2 * length u.variables
 length-start u = length-map (with_shadows (domains u)) (cell_of None) ∙ length-with_shadows (domains u) ∙ ap (λ n. 2 * n) (length-domains u)
 
 -- a run starts at a BREAK, which any run may come to

@@ -1,5 +1,5 @@
 -- A unit that a check passed is sensible.
-use Rattle.std.proofs.Common.{◌≡◌, ℕ, zero, suc, Bool, true, false, ◌&&◌, List, [], ◌∷◌, map, length, get_or, refl, sym, ◌∙◌, subst, inl, inr, ⊎_elim, true≢false}
+use Rattle.std.proofs.Common.{◌≡◌, ℕ, zero, suc, true, List, [], ◌∷◌, map, length, get_or, refl, sym, ◌∙◌, subst, inl, inr, ⊎_elim, true≢false}
 use Rattle.std.proofs.lemmas.Bool.{and_parts, and_from, cases_Bool, true_from_ne_false}
 use Rattle.std.proofs.lemmas.List.{length-map}
 use Rattle.std.specs.List.{list_all}
@@ -11,10 +11,9 @@ use Rattle.jcode.specs.Sentences.{Sentence, Hang, Break, Require, Proclaim, New,
 use Rattle.jcode.specs.Units.{Declared, declared_in, retold, unit_of}
 use Rattle.jcode.specs.Bytes.{slice}
 use Rattle.checking.specs.Breaks.{Unbroken}
-use Rattle.checking.specs.Pieces.{is_name, is_domain, is_declaration, is_term, is_text, is_list, is_label}
+use Rattle.checking.specs.Pieces.{is_name, is_domain, is_declaration, is_term, is_list}
 use Rattle.checking.specs.Readable.{Readable, readable, sentences_in}
 use Rattle.checking.specs.Sentences.{keeps}
-use Rattle.checking.specs.Types.{domains}
 use Rattle.checking.proofs.Reading.{readable_right, readable_whole}
 use Rattle.sheets.specs.Runs.{sentence}
 use Rattle.sheets.specs.Matches.{terms_kept, Sensible}

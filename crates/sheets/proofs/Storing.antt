@@ -50,7 +50,7 @@ abbrev pub looked : {X : Type 0} → List X → X → List ℕ → List X
 looked held absent cs = map (λ c. get_or held c absent) cs
 
 module _ {X : Type 0} (held : List X) (absent : X) where
-  at_drop : (n k : ℕ) (xs : List X) → drop n held ≡ xs → get_or held (n + k) absent ≡ get_or xs k absent
+  pub at_drop : (n k : ℕ) (xs : List X) → drop n held ≡ xs → get_or held (n + k) absent ≡ get_or xs k absent
   at_drop n k xs e = sym (get_or-drop n held k absent) ∙ ap (λ l. get_or l k absent) e
 
   -- cells that are numbered on hold what comes next
