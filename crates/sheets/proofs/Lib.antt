@@ -10,3 +10,5 @@ pub mod Placing
 pub mod Fitting
 pub mod Setting
 pub mod Keeping
+pub mod Laying
+pub mod Exampling

@@ -4,3 +4,4 @@ pub mod Judges
 pub mod Runs
 pub mod PathSheets
 pub mod Matches
+pub mod PathExamples

@@ -4,3 +4,4 @@
 pub mod cell;
 pub mod judge;
 pub mod part;
+pub mod path;
