@@ -51,7 +51,7 @@ second_path = (refl, ((omega arith, refl), (λ e. never (ap is_break e)), ((omeg
 limit_fails : Fails limit
 limit_fails =
     let m = matches limit limit_sensible in
-    let run = (m.both_ways second second_path (pos 7 ∷ pos 0 ∷ []) (pos 8 ∷ pos 1 ∷ []) refl).0 (refl, (refl, (refl, (refl, (refl, refl))))) in
+    let run = (m.both_ways second second_path (pos 7 ∷ pos 0 ∷ pos 8 ∷ pos 1 ∷ [])).0 (refl, (refl, (refl, (refl, (refl, refl))))) in
     m.along_is_run second second_path (pos 7 ∷ pos 0 ∷ []) (pos 8 ∷ pos 1 ∷ []) run.0 run.1
 
 -- ---- runs that get no further than the second statement
