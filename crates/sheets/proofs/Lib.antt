@@ -8,3 +8,11 @@ pub mod Numbered
 pub mod Extending
 pub mod Writing
 pub mod Adding
+pub mod Sensing
+pub mod Deepening
+pub mod Placing
+pub mod Fitting
+pub mod Setting
+pub mod Keeping
+pub mod Laying
+pub mod Exampling

@@ -10,3 +10,4 @@ pub mod Matches
 pub mod Settling
 pub mod Writings
 pub mod Places
+pub mod PathExamples

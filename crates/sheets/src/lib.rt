@@ -11,3 +11,4 @@ mod page;
 pub mod part;
 pub mod sheet;
 mod writer;
+pub mod path;
