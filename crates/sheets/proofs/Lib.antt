@@ -16,3 +16,6 @@ pub mod Setting
 pub mod Keeping
 pub mod Laying
 pub mod Exampling
+pub mod Setters
+pub mod Rooms
+pub mod Keeping
