@@ -19,3 +19,4 @@ pub mod Exampling
 pub mod Setters
 pub mod Rooms
 pub mod Ruling
+pub mod Telling
