@@ -20,3 +20,4 @@ pub mod Setters
 pub mod Rooms
 pub mod Ruling
 pub mod Telling
+pub mod Following

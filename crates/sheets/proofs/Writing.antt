@@ -1,5 +1,5 @@
 -- Parts and cells written one after another.
-use Rattle.std.proofs.Common.{◌≡◌, ℕ, ◌+◌, List, [], ◌∷◌, ◌++◌, length, sym, refl, ap, ◌∙◌, subst, length-append, append-nil, arith}
+use Rattle.std.proofs.Common.{◌≡◌, ℕ, suc, ◌+◌, List, [], ◌∷◌, ◌++◌, length, sym, refl, ap, ◌∙◌, subst, length-append, append-nil, arith}
 use Rattle.std.proofs.lemmas.Grind.{flat_map-append}
 use Rattle.sheets.specs.declared.cell.Cell.{Cell}
 use Rattle.sheets.specs.declared.current.Current.{Current}
@@ -7,7 +7,7 @@ use Rattle.sheets.specs.declared.writer.Writer.{Writer}
 use Rattle.sheets.specs.Currents.{current_in}
 use Rattle.sheets.specs.PathSheets.{rows_of, laid_from}
 use Rattle.sheets.specs.Sheets.{CellTerm}
-use Rattle.sheets.specs.Writings.{Extends, Writes}
+use Rattle.sheets.specs.Writings.{Extends, Writes, Fills, CountsAll}
 use Rattle.sheets.proofs.Extending.{extended, not_extended}
 
 pub rows_append : (es fs : List CellTerm) → rows_of (es ++ fs) ≡ rows_of es ++ rows_of fs
@@ -18,6 +18,10 @@ parts_append used [] fs = ap (λ n. laid_from n fs) (omega arith)
 parts_append used (e ∷ es) fs =
     let same : (used + length e) + length (rows_of es) ≡ used + length (e ++ rows_of es) = simp length-append (omega arith) in
     ap (λ ps. record { first = used; rows = length e } ∷ ps) (parts_append (used + length e) es fs ∙ ap (λ n. laid_from (used + length e) es ++ laid_from n fs) same)
+
+pub length_laid : (used : ℕ) (es : List CellTerm) → length (laid_from used es) ≡ length es
+length_laid used [] = refl
+length_laid used (e ∷ es) = ap suc (length_laid (used + length e) es)
 
 module _ (a b c : Writer) (es fs : List CellTerm) (cs ds : List Cell) (now later : List ℕ) where
   pub written : Writes a es cs now b → Writes b fs ds later c → Writes a (es ++ fs) (cs ++ ds) later c
@@ -39,3 +43,33 @@ with_current a b es cs now r later p is size = record { rows = p.rows; parts = p
 -- cells and then parts
 pub cells_first : (a b c : Writer) (es : List CellTerm) (cs : List Cell) (now later : List ℕ) → Writes a [] cs now b → Writes b es [] later c → Writes a es cs later c
 cells_first a b c es cs now later p q = subst (λ ds. Writes a es ds later c) (append-nil cs) (written a b c [] es cs [] now later p q)
+
+-- the same, whatever the current cells become
+module _ (a b c : Writer) (es fs : List CellTerm) (cs ds : List Cell) where
+  pub filled : Fills a es cs b → Fills b fs ds c → Fills a (es ++ fs) (cs ++ ds) c
+  filled p q = record {
+    rows = subst (λ rs. Extends a.rows rs c.rows) (sym (rows_append es fs)) (extended a.rows b.rows c.rows (rows_of es) (rows_of fs) p.rows q.rows);
+    parts = subst (λ ps. Extends a.parts ps c.parts) (sym (parts_append a.rows.count es fs)) (extended a.parts b.parts c.parts _ (laid_from (a.rows.count + length (rows_of es)) fs) p.parts (subst (λ n. Extends b.parts (laid_from n fs) c.parts) p.rows.count q.parts));
+    cells = extended a.cells b.cells c.cells cs ds p.cells q.cells;
+  }
+
+  -- where all of it can be counted, so can the first of it, and then the rest
+  pub counts_first : CountsAll a (es ++ fs) (cs ++ ds) → CountsAll a es cs
+  counts_first n = record {
+    rows = omega (arith, n.rows, ap length (rows_append es fs), length-append (rows_of es) (rows_of fs));
+    parts = omega (arith, n.parts, length-append es fs);
+    cells = omega (arith, n.cells, length-append cs ds);
+  }
+
+  pub counts_rest : CountsAll a (es ++ fs) (cs ++ ds) → Fills a es cs b → CountsAll b fs ds
+  counts_rest n p = record {
+    rows = omega (arith, n.rows, p.rows.count, ap length (rows_append es fs), length-append (rows_of es) (rows_of fs));
+    parts = let laid = length_laid a.rows.count es in omega (arith, n.parts, p.parts.count, laid, length-append es fs);
+    cells = omega (arith, n.cells, p.cells.count, length-append cs ds);
+  }
+
+pub not_filled : (a : Writer) → Fills a [] [] a
+not_filled a = record { rows = not_extended a.rows; parts = not_extended a.parts; cells = not_extended a.cells }
+
+pub fills : (a b : Writer) (es : List CellTerm) (cs : List Cell) (now : List ℕ) → Writes a es cs now b → Fills a es cs b
+fills a b es cs now p = record { rows = p.rows; parts = p.parts; cells = p.cells }

@@ -6,11 +6,13 @@ ghost use Rattle.terms.specs.Terms.{renamed};
 ghost use Rattle.jcode.specs.Units.{term_in, sentence_in};
 ghost use Rattle.jcode.specs.declared.variable.Domain.TheVariants.{Integer, Boolean};
 ghost use Rattle.jcode.specs.declared.statement.Statement.TheVariants.{Assign, Hang};
+ghost use Rattle.flow.specs.Turns.{told, Tells};
+ghost use Rattle.checking.specs.Breaks.{steps_of};
 ghost use Rattle.checking.specs.CheckedUnits.{said};
 ghost use Rattle.checking.specs.Types.{domains};
 ghost use Rattle.sheets.specs.Currents.{current_in};
 ghost use Rattle.sheets.specs.Matches.{terms_kept};
-ghost use Rattle.sheets.specs.PathSheets.{cell_of as cell_for, cells_from, cells_of, moved, over, parts_of};
+ghost use Rattle.sheets.specs.PathSheets.{cell_of as cell_for, cells_along, cells_from, cells_of, moved, over, parts_along, parts_of};
 ghost use Rattle.sheets.specs.Runs.{listed, read, sentence, stored, types_at};
 
 use super::cell::{Cell, CellRow};
@@ -20,6 +22,7 @@ use super::part::Part;
 use checking::term::term_rows;
 use checking::types::{domain_bounds, domain_kind};
 use checking::unit::CheckedUnit;
+use flow::turn::Turn;
 use jcode::mention::{Mention, Stage, UnitRow};
 use jcode::statement::{Statement, Term};
 use jcode::variable::Domain;
@@ -99,7 +102,7 @@ impl Page<'_, CellRow> {
 }
 
 impl Writer<'_> {
-    ghost use Rattle.sheets.specs.Writings.{Writes, Counts, CountsAll, progress, headed};
+    ghost use Rattle.sheets.specs.Writings.{Writes, Fills, Counts, CountsAll, progress, headed};
 
     // A part, which may set a cell.
     fn part(&mut self, set: Option<usize>, term: &[UnitRow], after: &Current)
@@ -191,5 +194,19 @@ impl Writer<'_> {
         ensures { Writes self.old (parts_of (progress self.old) (sentence (said unit.now) place)) (cells_of (said unit.now) (progress self.old) (sentence (said unit.now) place)) (moved (progress self.old) (sentence (said unit.now) place)) self.new }
     {
         self.statement(unit, statement_at(unit, place));
+    }
+
+    // What the statements of a path add, from its first turn on.
+    pub(super) fn along(&mut self, unit: &CheckedUnit<'_>, first: Turn)
+        requires counts { CountsAll self.old (parts_along (said unit.now) (progress self.old) (told (steps_of (said unit.now)) first)) (cells_along (said unit.now) (progress self.old) (told (steps_of (said unit.now)) first)) }
+        requires size { self.old.current.count ≡ 2 * length (said unit.now).variables }
+        requires tells { Tells (steps_of (said unit.now)) first }
+        ensures { Fills self.old (parts_along (said unit.now) (progress self.old) (told (steps_of (said unit.now)) first)) (cells_along (said unit.now) (progress self.old) (told (steps_of (said unit.now)) first)) self.new }
+    {
+        let mut turn = Some(first);
+        while let Some(here) = turn {
+            self.visit(unit, here.place());
+            turn = unit.after(here);
+        }
     }
 }
