@@ -29,7 +29,7 @@ pub still : (s : List Step) (t : Turn) (next : Option Turn) → Follows s t next
 still s t None ends = tt
 still s t (Some n) on = on.1
 
-length_cells : {T : Type 0} (u : JUnit) (w : Progress) (st : Sentence T) → length (cells_of u w st) ≡ 2 * length (listed st)
+pub length_cells : {T : Type 0} (u : JUnit) (w : Progress) (st : Sentence T) → length (cells_of u w st) ≡ 2 * length (listed st)
 length_cells u w st = sym (length-map (cells_of u w st) unset) ∙ ap length (unset_cells_of u w st) ∙ two_each u (listed st)
 
 moves_on : (u : JUnit) (w x : Writer) (st : Sentence (List ℕ)) → Writes w (parts_of (progress w) st) (cells_of u (progress w) st) (moved (progress w) st) x → progress x ≡ onward (progress w) st

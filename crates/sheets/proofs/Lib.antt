@@ -21,3 +21,5 @@ pub mod Rooms
 pub mod Ruling
 pub mod Telling
 pub mod Following
+pub mod Starting
+pub mod Bounding

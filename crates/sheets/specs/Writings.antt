@@ -1,13 +1,16 @@
 -- What a writer writes, statement by statement.
-use Rattle.std.specs.Prelude.{◌≡◌, ℕ, suc, ◌+◌, ◌<◌, List, length, Some, None, Option}
+use Rattle.std.specs.Prelude.{◌≡◌, ℕ, suc, ◌+◌, ◌*◌, ◌<◌, List, map, length, Some, None, Option}
 use Rattle.terms.specs.declared.row.Row.{Row}
 use Rattle.jcode.specs.Tables.{put}
+use Rattle.jcode.specs.Units.{JUnit}
+use Rattle.checking.specs.Types.{domains}
 use Rattle.sheets.specs.declared.cell.Cell.{Cell}
 use Rattle.sheets.specs.declared.page.Page.{Page}
 use Rattle.sheets.specs.declared.part.Part.{Part}
 use Rattle.sheets.specs.declared.writer.Writer.{Writer}
 use Rattle.sheets.specs.Currents.{current_in}
-use Rattle.sheets.specs.PathSheets.{Progress, equated, rows_of, laid_from}
+use Rattle.sheets.specs.PathSheets.{Progress, cell_of, equated, rows_of, laid_from, started}
+use Rattle.sheets.specs.Runs.{with_shadows}
 use Rattle.sheets.specs.Sheets.{CellTerm}
 
 -- these records are written on a page, behind what it counts; what finds no room is counted alone
@@ -47,3 +50,11 @@ pub record Fills (before : Writer) (es : List CellTerm) (cs : List Cell) (after 
   pub rows : Extends before.rows (rows_of es) after.rows
   pub parts : Extends before.parts (laid_from before.rows.count es) after.parts
   pub cells : Extends before.cells cs after.cells
+
+-- a writer at the start of a unit's sheets, with these pages
+pub record Starts (u : JUnit) (rows : List (Row ℕ)) (parts : List Part) (cells : List Cell) (w : Writer) : Type 0 where
+  pub rows_blank : (w.rows.records.now ≡ rows) × (w.rows.count ≡ 0)
+  pub parts_blank : (w.parts.records.now ≡ parts) × (w.parts.count ≡ 0)
+  pub cells_begun : w.cells.records.now ≡ put cells 0 (map (cell_of None) (with_shadows (domains u)))
+  pub at_start : progress w ≡ started u
+  pub size : w.current.count ≡ 2 * length u.variables

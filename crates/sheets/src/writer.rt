@@ -16,7 +16,7 @@ ghost use Rattle.sheets.specs.PathSheets.{cell_of as cell_for, cells_along, cell
 ghost use Rattle.sheets.specs.Runs.{listed, read, sentence, stored, types_at};
 
 use super::cell::{Cell, CellRow};
-use super::current::Current;
+use super::current::{Current, places};
 use super::page::Page;
 use super::part::Part;
 use checking::term::term_rows;
@@ -72,6 +72,14 @@ fn cell_of(domain: Domain, set_by: Option<usize>) -> Cell
     }
 }
 
+// How many variables a unit has.
+fn count(unit: &CheckedUnit<'_>) -> usize
+    ensures count { result ≡ length (said unit.now).variables }
+    ensures few { result ≤ 32 }
+{
+    unit.variables().len()
+}
+
 // The type of a variable; past the last one there is none to be asked for.
 fn domain_of(unit: &CheckedUnit<'_>, variable: usize) -> Domain
     ensures { result ≡ slice_index_or (domains (said unit.now)) variable Integer }
@@ -98,6 +106,33 @@ impl Page<'_, CellRow> {
         for row in term {
             self.push(cell_row(before, after, *row));
         }
+    }
+}
+
+impl<'a> Writer<'a> {
+    ghost use Rattle.sheets.specs.Writings.{Starts};
+
+    // With two cells for each variable of the unit.
+    pub(super) fn start(
+        unit: &CheckedUnit<'_>,
+        rows: &'a mut [CellRow],
+        parts: &'a mut [Part],
+        cells: &'a mut [Cell],
+    ) -> Writer<'a>
+        ensures lent_rows { result.rows.records.ghost_name ≡ rows.entry.ghost_name }
+        ensures lent_parts { result.parts.records.ghost_name ≡ parts.entry.ghost_name }
+        ensures lent_cells { result.cells.records.ghost_name ≡ cells.entry.ghost_name }
+        ensures starts { Starts (said unit.now) rows.old parts.old cells.old result }
+    {
+        let variables = count(unit);
+        let mut writer = Writer {
+            rows: Page::new(rows),
+            parts: Page::new(parts),
+            cells: Page::new(cells),
+            current: Current::start(variables),
+        };
+        writer.new_cells(unit, &places()[..variables]);
+        writer
     }
 }
 
