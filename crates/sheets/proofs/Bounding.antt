@@ -3,6 +3,9 @@ use Rattle.std.proofs.Common.{◌≡◌, ℕ, zero, suc, ◌+◌, ◌*◌, ◌<�
 use Rattle.std.proofs.lemmas.Bool.{and_parts, leb-true}
 use Rattle.std.proofs.lemmas.List.{length-map, length-take, length-drop}
 use Rattle.std.proofs.lemmas.List.Folds.{list_all-append}
+use Rattle.terms.specs.declared.operator.Operator.TheVariants.{Equal}
+use Rattle.terms.specs.declared.row.Row.TheVariants.{Mention, Operator as Applied}
+use Rattle.terms.specs.Terms.{renamed}
 use Rattle.jcode.specs.declared.statement.Statement.{Statement}
 use Rattle.jcode.specs.declared.statement.Statement.TheVariants as stands
 use Rattle.jcode.specs.declared.statement.Term.{Term}
@@ -15,16 +18,20 @@ use Rattle.checking.specs.Held.{held}
 use Rattle.checking.specs.Pieces.{is_list}
 use Rattle.sheets.specs.Matches.{terms_kept}
 use Rattle.sheets.specs.PathSheets.{Progress, cells_of, parts_of, moved, onward, over, rows_of, parts_along, cells_along}
-use Rattle.sheets.specs.Runs.{listed, sentence}
+use Rattle.sheets.specs.Runs.{listed, read, sentence}
 use Rattle.sheets.specs.Sheets.{CellTerm}
 use Rattle.sheets.proofs.Following.{length_cells}
 use Rattle.sheets.proofs.Sensing.{reads, sensible}
-use Rattle.sheets.proofs.Telling.{told_parts}
-use Rattle.sheets.proofs.Writing.{rows_append}
+use Rattle.sheets.proofs.Saying.{told_parts}
+use Rattle.sheets.proofs.Joining.{rows_append}
 
 module _ (rows : List UnitRow) (few : length rows ≤ 2000) where
   short : (b a : List ℕ) (e : Term) → length (over b a (term_in rows e)) ≤ 2000
-  short b a e = ?
+  short b a e =
+      let m = length-map (term_in rows e) (renamed (read 0 b a)) in
+      let t = length-take e.rows (drop e.first rows) in
+      let d = length-drop e.first rows in
+      omega (arith, few, m, t, d)
 
   one : (b a : List ℕ) (e : Term) → length (rows_of (over b a (term_in rows e) ∷ [])) ≤ 4004
   one b a e = let s = short b a e in let n = length-append (over b a (term_in rows e)) [] in omega (arith, s, n)
@@ -35,7 +42,12 @@ module _ (rows : List UnitRow) (few : length rows ≤ 2000) where
   rows_bound w (stands.Require e t) = one w.current w.current e
   rows_bound w (stands.Proclaim e) = one w.current w.current e
   rows_bound w (stands.New vs e t) = one w.current (moved w (sentence_in rows (stands.New vs e t))) e
-  rows_bound w (stands.Assign v e f) = ?
+  rows_bound w (stands.Assign v e f) =
+      let x = short w.current w.current f in
+      let y = short w.current w.current e in
+      let n = length-append (over w.current w.current (term_in rows f)) (Applied Equal ∷ Mention (w.cells + 1) ∷ over w.current w.current (term_in rows e) ++ []) in
+      let m = length-append (over w.current w.current (term_in rows e)) [] in
+      omega (arith, x, y, n, m)
   rows_bound w (stands.Split l) = omega arith
   rows_bound w (stands.When e l) = one w.current w.current e
   rows_bound w (stands.Branch t l) = omega arith

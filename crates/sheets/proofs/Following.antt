@@ -13,7 +13,7 @@ use Rattle.sheets.specs.Runs.{listed, sentence, types_at}
 use Rattle.sheets.specs.Writings.{Writes, Fills, CountsAll, progress}
 use Rattle.sheets.proofs.Adding.{two_each}
 use Rattle.sheets.proofs.Typing.{unset, unset_cells_of}
-use Rattle.sheets.proofs.Writing.{filled, fills, not_filled, counts_first, counts_rest, length_laid}
+use Rattle.sheets.proofs.Joining.{filled, fills, not_filled, counts_first, counts_rest, length_laid}
 
 -- the places from a turn on
 abbrev pub left : List Step → Option Turn → List ℕ
@@ -34,8 +34,8 @@ length_cells u w st = sym (length-map (cells_of u w st) unset) ∙ ap length (un
 
 moves_on : (u : JUnit) (w x : Writer) (st : Sentence (List ℕ)) → Writes w (parts_of (progress w) st) (cells_of u (progress w) st) (moved (progress w) st) x → progress x ≡ onward (progress w) st
 moves_on u w x st p =
-    let cells = p.cells.count ∙ ap (λ n. w.cells.count + n) (length_cells u (progress w) st) in
-    let parts = p.parts.count ∙ ap (λ n. w.parts.count + n) (length_laid w.rows.count (parts_of (progress w) st)) in
+    let cells = p.cells.count ∙ ap (λ n. w.written.cells + n) (length_cells u (progress w) st) in
+    let parts = p.parts.count ∙ ap (λ n. w.written.parts + n) (length_laid w.written.rows (parts_of (progress w) st)) in
     λ i. record { cells = cells i; parts = parts i; current = p.current i }
 
 -- from a turn on, who writes the rest of the path has written all of it

@@ -17,7 +17,7 @@ use Rattle.sheets.specs.declared.writer.Writer.{Writer}
 use Rattle.sheets.specs.Currents.{current_in}
 use Rattle.sheets.specs.PathSheets.{cell_of, cells_from, started}
 use Rattle.sheets.specs.Runs.{types_at, with_shadows}
-use Rattle.sheets.specs.Writings.{Writes, Starts}
+use Rattle.sheets.specs.Writings.{page, rows_page, parts_page, cells_page, Extends, Writes, Starts}
 use Rattle.sheets.proofs.Adding.{two_each}
 use Rattle.sheets.proofs.Numbered.{take_places, cells_are, looked_up, all_below}
 use Rattle.sheets.proofs.Sensing.{reads}
@@ -48,16 +48,14 @@ module _ (u : CheckedUnit) (n : ℕ) (count : n ≡ length (said u).variables) (
   pub all_known : (m : ℕ) → m ≡ 2 * n → list_all (λ v. nat_lt (2 * v + 1) m) (take n all) ≡ true
   all_known m e = subst (λ m. list_all (λ v. nat_lt (2 * v + 1) m) (take n all) ≡ true) (sym e) (subst (λ vs. list_all (λ v. nat_lt (2 * v + 1) (2 * n)) vs ≡ true) (sym firsts) (all_below 0 n n (omega arith)))
 
-  pub started_with : (rows : List (Row ℕ)) (parts : List Part) (cells : List Cell) (w x : Writer)
-      → w.rows.records.now ≡ rows → w.rows.count ≡ 0 → w.parts.records.now ≡ parts → w.parts.count ≡ 0 → w.cells.records.now ≡ cells → w.cells.count ≡ 0
-      → current_in w.current ≡ range_with_len 0 (2 * n) → w.current.count ≡ 2 * n
-      → Writes w [] (map (cell_of None) (types_at (said u) (take n all))) (current_in w.current) x → Starts (said u) rows parts cells x
-  started_with rows parts cells w x r rn p pn c cn now size wrote = record {
-    rows_blank = (wrote.rows.records ∙ r, omega (arith, wrote.rows.count, rn));
-    parts_blank = (wrote.parts.records ∙ p, omega (arith, wrote.parts.count, pn));
-    cells_begun = wrote.cells.records ∙ (λ i. put (c i) (cn i) (map (cell_of None) (all_types i)));
-    at_start = let counted : x.cells.count ≡ 2 * length (said u).variables = omega (arith, wrote.cells.count, cn, two_each (said u) (take n all), all_long, count) in
-        let none : x.parts.count ≡ 0 = omega (arith, wrote.parts.count, pn) in
+  pub started_with : (w x : Writer) → w.written.rows ≡ 0 → w.written.parts ≡ 0 → w.written.cells ≡ 0 → current_in w.current ≡ range_with_len 0 (2 * n) → w.current.count ≡ 2 * n
+      → Writes w [] (map (cell_of None) (types_at (said u) (take n all))) (current_in w.current) x → Starts (said u) w.rows.now w.parts.now w.cells.now x
+  started_with w x rn pn cn now size wrote = record {
+    rows_kept = subst (λ n. Extends (page w.rows.now n) [] (rows_page x)) rn wrote.rows;
+    parts_kept = subst (λ n. Extends (page w.parts.now n) [] (parts_page x)) pn wrote.parts;
+    cells_begun = subst (λ ds. Extends (page w.cells.now 0) (map (cell_of None) ds) (cells_page x)) all_types (subst (λ m. Extends (page w.cells.now m) (map (cell_of None) (types_at (said u) (take n all))) (cells_page x)) cn wrote.cells);
+    at_start = let counted : x.written.cells ≡ 2 * length (said u).variables = omega (arith, wrote.cells.count, cn, two_each (said u) (take n all), all_long, count) in
+        let none : x.written.parts ≡ 0 = omega (arith, wrote.parts.count, pn) in
         let current = wrote.current ∙ now ∙ ap (λ k. range_with_len 0 (2 * k)) count ∙ sym (cells_are 0 (said u).variables) in
         λ i. record { cells = counted i; parts = none i; current = current i };
     size = wrote.size ∙ size ∙ ap (λ k. 2 * k) count;

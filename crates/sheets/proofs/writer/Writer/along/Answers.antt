@@ -19,4 +19,6 @@ pub loop-turn-preserved : goal.loop-turn-preserved
 loop-turn-preserved c = one_visited (said c.args.unit.now) c.args.self.now c.loop-turn.self _ c.loop-turn.turn c.loop-turn.invariant c.in-Some.here c.in-Some.is c.place.result c.place.ensures c.visit.new.self c.after-turn.result c.after-turn.ensures c.visit.ensures
 
 pub returns : goal.returns
-returns c = all_visited (said c.args.unit.now) c.args.self.now c.loop-turn.self _ c.loop-turn.turn c.loop-turn.invariant (search rules)
+returns c =
+    let filled = all_visited (said c.args.unit.now) c.args.self.now c.loop-turn.self _ c.loop-turn.turn c.loop-turn.invariant (search rules) in
+    record { lent_rows = filled.lent.rows; lent_parts = filled.lent.parts; lent_cells = filled.lent.cells; fills = filled }

@@ -6,6 +6,6 @@ new_cells-requires-clause-known c = all_known c.args.unit.now c.count-variables.
 
 pub returns-clause-starts : goal.returns-clause-starts
 returns-clause-starts c =
-    started_with c.args.unit.now c.count-variables.result c.count-variables.ensures.count c.count-variables.ensures.few c.places.result c.places.ensures _ _ _
-    (record { rows = c.new.result; parts = c.new-2.result; cells = c.new-3.result; current = c.start.result }) c.new_cells.new.self c.new.ensures.records c.new.ensures.count c.new-2.ensures.records c.new-2.ensures.count
-    c.new-3.ensures.records c.new-3.ensures.count c.start.ensures.cells c.start.ensures.count c.new_cells.ensures.writes
+    started_with c.args.unit.now c.count-variables.result c.count-variables.ensures.count c.count-variables.ensures.few c.places.result c.places.ensures
+    (record { rows = c.args.rows; parts = c.args.parts; cells = c.args.cells; written = c.default.result; current = c.start.result }) c.new_cells.new.self c.default.ensures.0 c.default.ensures.1.0 c.default.ensures.1.1
+    c.start.ensures.cells c.start.ensures.count c.new_cells.ensures.writes
