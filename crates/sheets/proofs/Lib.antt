@@ -24,3 +24,4 @@ pub mod Following
 pub mod Starting
 pub mod Bounding
 pub mod Drafting
+pub mod Rooming
