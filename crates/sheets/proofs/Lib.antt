@@ -12,3 +12,4 @@ pub mod Setting
 pub mod Keeping
 pub mod Laying
 pub mod Exampling
+pub mod Telling
