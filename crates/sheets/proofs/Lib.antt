@@ -25,3 +25,4 @@ pub mod Starting
 pub mod Bounding
 pub mod Drafting
 pub mod Rooming
+pub mod Telling
