@@ -1,3 +1,4 @@
 pub mod Setters
 pub mod Rooms
 pub mod Keeping
+pub mod Spanning

@@ -27,6 +27,7 @@ pub struct Sheet<'a> {
 
 impl<'a> Sheet<'a> {
     ghost use Rattle.sheets.specs.Places.{rows_in, parts_in, cells_in, says, false_alone, Filled};
+    ghost use Rattle.sheets.specs.Tables.{IsSheet};
     ghost use Rattle.sheets.specs.Sheets.{part, is_some_of, set_by, cell_set};
 
     // `false!` alone, until tables fill it.
@@ -56,6 +57,18 @@ impl<'a> Sheet<'a> {
         }
         *self = Sheet { tables };
         Ok(())
+    }
+
+    // Of tables that are known to keep the rules.
+    pub(super) fn of(rows: &'a [CellRow], parts: &'a [Part], cells: &'a [Cell]) -> Sheet<'a>
+        requires { IsSheet rows.now parts.now cells.now }
+        ensures rows { rows_in result ≡ rows.now }
+        ensures parts { parts_in result ≡ parts.now }
+        ensures cells { cells_in result ≡ cells.now }
+    {
+        Sheet {
+            tables: Tables { rows, parts, cells },
+        }
     }
 
     pub fn rows(&self) -> &'a [CellRow]
