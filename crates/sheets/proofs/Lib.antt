@@ -2,3 +2,4 @@ pub mod Setters
 pub mod Rooms
 pub mod Keeping
 pub mod Spanning
+pub mod Replaying

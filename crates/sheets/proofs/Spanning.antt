@@ -118,7 +118,7 @@ module _ {M : Type 0} (at : M → Option Kind) where
       one (Some n ∷ []) e = refl
       one (Some n ∷ m ∷ ns) e = clash e
 
-is_its_kind : (o : Option Kind) (k : Kind) → is_kind o k ≡ true → o ≡ Some k
+pub is_its_kind : (o : Option Kind) (k : Kind) → is_kind o k ≡ true → o ≡ Some k
 is_its_kind None k e = clash e
 is_its_kind (Some Number) Number e = refl
 is_its_kind (Some Number) Truth e = clash e
@@ -133,12 +133,12 @@ truth_between : (low high n : ℤ) → (is_bound Truth low && is_bound Truth hig
 truth_between low high n b l h = grind (arith, ints)
 
 -- a cell within its bounds
-record InCell (x : Cell) (n : ℤ) : Type 0 where
-  bounded : is_bounded x ≡ true
-  above : x.low ≤ℤ n
-  below : n ≤ℤ x.high
+pub record InCell (x : Cell) (n : ℤ) : Type 0 where
+  pub bounded : is_bounded x ≡ true
+  pub above : x.low ≤ℤ n
+  pub below : n ≤ℤ x.high
 
-in_first : (c : Cell) (cs : List Cell) (n : ℤ) (ns : List ℤ) → list_all is_bounded (c ∷ cs) ≡ true → is_within (c ∷ cs) (n ∷ ns) ≡ true → InCell c n
+pub in_first : (c : Cell) (cs : List Cell) (n : ℤ) (ns : List ℤ) → list_all is_bounded (c ∷ cs) ≡ true → is_within (c ∷ cs) (n ∷ ns) ≡ true → InCell c n
 in_first c cs n ns b h =
     let t = and_parts _ _ h in
     let u = and_parts (int_le c.low n) (int_le n c.high) t.0 in
@@ -153,6 +153,14 @@ in_cell (c ∷ cs) (n ∷ ns) b h (suc i) x e = in_cell cs ns (and_parts _ _ b).
 of_its_kind : (x : Cell) (n : ℤ) → InCell x n → (k : Kind) → x.kind ≡ k → of_kind k n ≡ true
 of_its_kind x n c Number e = refl
 of_its_kind x n c Truth e = truth_between x.low x.high n (subst (λ k. (is_bound k x.low && is_bound k x.high) ≡ true) e (and_parts _ _ c.bounded).0) c.above c.below
+
+-- so its number is in the span
+pub in_cell_span : (x : Cell) (n : ℤ) → InCell x n → in_span n ≡ true
+in_cell_span x n c = go x.kind (and_parts _ _ c.bounded).0
+  where
+    go : (k : Kind) → (is_bound k x.low && is_bound k x.high) ≡ true → in_span n ≡ true
+    go Number b = let l = c.above in let h = c.below in grind (arith, ints)
+    go Truth b = let l = c.above in let h = c.below in grind (arith, ints)
 
 -- what holds of a part at a valuation within the bounds
 pub record Stays (v : List ℤ) (e : CellTerm) : Type 0 where
