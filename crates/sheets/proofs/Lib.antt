@@ -26,3 +26,5 @@ pub mod Bounding
 pub mod Drafting
 pub mod Rooming
 pub mod Telling
+pub mod Spanning
+pub mod Replaying
