@@ -6,8 +6,10 @@ use jcode::mention::UnitRow;
 use jcode::refusal::Refusal;
 use jcode::span::Span;
 use jcode::statement::{Statement, Term};
-use jcode::variable::Variable;
+use jcode::variable::{Domain, Variable};
+use std::array;
 use terms::operator::Operator;
+use terms::part::part;
 use terms::row::Row;
 
 const DAMAGE: CheckFault = CheckFault::Rule {
@@ -39,11 +41,11 @@ fn told(
 #[test]
 fn thirty_two_variables(rt: HostRuntime) {
     let statements = [Statement::Break { text: EMPTY }, Statement::Hang];
-    let mut variables = [Variable::default(); 33];
-    for (start, variable) in variables.iter_mut().enumerate() {
-        variable.name = Span { start, length: 1 };
-    }
-    assert!(rt; told(&variables[..32], &statements, &[]) == Ok(()));
+    let variables: [Variable; 33] = array::from_fn(|start| Variable {
+        name: Span { start, length: 1 },
+        domain: Domain::Integer,
+    });
+    assert!(rt; told(part(&variables, 0, 32), &statements, &[]) == Ok(()));
     assert!(rt; told(&variables, &statements, &[]) == Err(DAMAGE));
 }
 
@@ -57,27 +59,28 @@ fn two_hundred_statements(rt: HostRuntime) {
 
 #[test]
 fn two_thousand_rows(rt: HostRuntime) {
-    let mut rows: [UnitRow; 2_001] = [Row::Operator(Operator::Not); 2_001];
-    let mut statements = [Statement::Break { text: EMPTY }; 103];
-    for i in 0..100 {
-        rows[20 * i + 19] = Row::Operator(Operator::True);
-        statements[i + 1] = Statement::Proclaim {
+    let rows: [UnitRow; 2_001] = array::from_fn(|i| Row::Operator(if i % 20 == 19 || i == 2_000 {
+        Operator::True
+    } else {
+        Operator::Not
+    }));
+    let mut statements: [Statement; 103] = array::from_fn(|i| match i {
+        0 => Statement::Break { text: EMPTY },
+        1..=100 => Statement::Proclaim {
             condition: Term {
-                first: 20 * i,
+                first: 20 * (i - 1),
                 rows: 20,
             },
-        };
-    }
-    statements[101] = Statement::Hang;
-    assert!(rt; told(&[], &statements[..102], &rows[..2_000]) == Ok(()));
-    rows[2_000] = Row::Operator(Operator::True);
+        },
+        _ => Statement::Hang,
+    });
+    assert!(rt; told(&[], part(&statements, 0, 102), part(&rows, 0, 2_000)) == Ok(()));
     statements[101] = Statement::Proclaim {
         condition: Term {
             first: 2_000,
             rows: 1,
         },
     };
-    statements[102] = Statement::Hang;
     assert!(rt; told(&[], &statements, &rows) == Err(DAMAGE));
 }
 
