@@ -17,6 +17,10 @@ static REQUIRE: &'static [u8] = b"REQUIRE (true!) (//)\n";
 
 static PROCLAIM: &'static [u8] = b"PROCLAIM (true!)\n";
 
+// One that leaves the span.
+static OUTSIDE: &'static [u8] =
+    b"PROCLAIM (lti! (addi! (consti! 2000000000) (consti! 1)) (consti! 0))\n";
+
 // BREAK, another statement, so many SPLITs of two in a row, then REQUIRE and HANG.
 fn splitting(heap: Global, ahead: &[u8], count: usize) -> Result<Vec<u8>, AllocError> {
     let mut bytes = Vec::new(heap);
@@ -56,7 +60,9 @@ fn at_most_65536(rt: HostRuntime) -> Result<(), Fail> {
     refuses(&rt, &splitting(rt.alloc(), REQUIRE, 16)?, 12, 0)?;
     refuses(&rt, &splitting(rt.alloc(), PROCLAIM, 17)?, 12, 0)?;
     // more than any count of 32 bits holds
-    refuses(&rt, &splitting(rt.alloc(), PROCLAIM, 32)?, 12, 0)
+    refuses(&rt, &splitting(rt.alloc(), PROCLAIM, 32)?, 12, 0)?;
+    // ranges come ahead of paths
+    refuses(&rt, &splitting(rt.alloc(), OUTSIDE, 17)?, 11, 1)
 }
 
 // The statements of a path through sixteen SPLITs: which WHEN it goes by at each is told by a bit of its number, the greatest at the first.

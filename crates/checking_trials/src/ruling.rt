@@ -506,3 +506,19 @@ fn a_unit_after_another(rt: HostRuntime) -> Result<(), Fail> {
     assert!(rt; attempt(bytes, first.outline.next) == Err(fault));
     Ok(())
 }
+
+// Either fault has the same line: a byte for reading, a statement for a rule.
+#[test]
+fn how_a_fault_is_told(rt: HostRuntime) -> Result<(), Fail> {
+    let reading = CheckFault::Reading(ReadFault {
+        refusal: Refusal::Name,
+        place: 28,
+    });
+    let rule = CheckFault::Rule {
+        refusal: Refusal::Circle,
+        place: 3,
+    };
+    assert!(rt; format!(in rt.alloc(); "{reading}")?.as_bytes() == b"refused 5 28".as_slice());
+    assert!(rt; format!(in rt.alloc(); "{rule}")?.as_bytes() == b"refused 10 3".as_slice());
+    Ok(())
+}
