@@ -1,6 +1,6 @@
 // Tables that no reading leaves: each is refused, and the place says what it said before.
 
-use super::damaging::{BYTES, Damage, SOUND, TEXT, Tables};
+use super::tables::{Damage, SOUND, TEXT};
 use checking::fault::CheckFault;
 use checking::unit::CheckedUnit;
 use jcode::mention::{Aspect, Mention, Stage};
@@ -11,7 +11,7 @@ use jcode::variable::{Domain, Variable};
 use terms::operator::Operator;
 use terms::row::Row;
 
-const DAMAGE: CheckFault = CheckFault::Rule {
+pub(super) const DAMAGE: CheckFault = CheckFault::Rule {
     refusal: Refusal::Tables,
     place: 0,
 };
@@ -620,36 +620,15 @@ fn the_place_stays(rt: HostRuntime) {
     let damaged = SOUND.damaged(Damage::Row(6, Row::Constant(i64::MAX)));
     let wide = SOUND.damaged(Damage::Row(6, Row::Constant(1_999_999_992)));
     let mut unit = CheckedUnit::house();
-    let told = unit.check(
-        &BYTES,
-        sound.name,
-        &sound.variables,
-        &sound.statements,
-        &sound.rows,
-    );
-    assert!(rt; told == Ok(()));
+    assert!(rt; sound.fill(&mut unit) == Ok(()));
     let before = unit;
-    let told = unit.check(
-        &BYTES,
-        damaged.name,
-        &damaged.variables,
-        &damaged.statements,
-        &damaged.rows,
-    );
-    assert!(rt; told == Err(DAMAGE));
+    assert!(rt; damaged.fill(&mut unit) == Err(DAMAGE));
     assert!(rt; unit == before);
-    let told = unit.check(
-        &BYTES,
-        wide.name,
-        &wide.variables,
-        &wide.statements,
-        &wide.rows,
-    );
     let fault = CheckFault::Rule {
         refusal: Refusal::Range,
         place: 2,
     };
-    assert!(rt; told == Err(fault));
+    assert!(rt; wide.fill(&mut unit) == Err(fault));
     assert!(rt; unit == before);
     assert!(rt; unit.name() == b"Unit".as_slice());
     assert_eq!(rt; unit.paths(), 1);

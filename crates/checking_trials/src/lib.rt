@@ -2,14 +2,14 @@
 #![tactic(auto)]
 
 #[cfg(test)]
-mod counting;
+mod counts;
 #[cfg(test)]
 mod damage;
 #[cfg(test)]
-mod damaging;
-#[cfg(test)]
 mod limits;
 #[cfg(test)]
-mod ruling;
+mod paths;
 #[cfg(test)]
-mod walking;
+mod rules;
+#[cfg(test)]
+mod tables;

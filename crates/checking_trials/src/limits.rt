@@ -1,5 +1,6 @@
 // Tables at the limits of a unit and past them.
 
+use super::damage::DAMAGE;
 use checking::fault::CheckFault;
 use checking::unit::CheckedUnit;
 use jcode::mention::UnitRow;
@@ -11,11 +12,6 @@ use std::array;
 use terms::operator::Operator;
 use terms::part::part;
 use terms::row::Row;
-
-const DAMAGE: CheckFault = CheckFault::Rule {
-    refusal: Refusal::Tables,
-    place: 0,
-};
 
 // A name for each of 33 variables.
 static NAMES: [u8; 33] = *b"abcdefghijklmnopqrstuvwxyzABCDEFG";

@@ -1,7 +1,7 @@
 // Units with many paths, up to the most that a unit may have and past it.
 
-use super::ruling::{attempt, refuses};
-use super::walking::goes_by;
+use super::paths::goes_by;
+use super::rules::{attempt, refuses};
 use checking::unit::CheckedUnit;
 use jcode::mention::{ROW_LIMIT, UnitRow};
 use jcode::reader::read;
@@ -107,5 +107,10 @@ fn which_of_65536(rt: HostRuntime) -> Result<(), Fail> {
         );
     }
     assert_eq!(rt; unit.path(65_536), None);
+    // a turn that tells no way of another unit
+    let Some(turn) = unit.path(65_535) else {
+        return Err(Fail::new("it has no last path"));
+    };
+    assert_eq!(rt; CheckedUnit::house().after(turn), None);
     Ok(())
 }

@@ -48,16 +48,21 @@ impl Tables {
         self
     }
 
-    // What a check of them tells, and whether the place says `House` after it.
-    pub(super) fn check(&self) -> (Result<(), CheckFault>, bool) {
-        let mut unit = CheckedUnit::house();
-        let told = unit.check(
+    // Has a place check them.
+    pub(super) fn fill<'a>(&'a self, unit: &mut CheckedUnit<'a>) -> Result<(), CheckFault> {
+        unit.check(
             &BYTES,
             self.name,
             &self.variables,
             &self.statements,
             &self.rows,
-        );
+        )
+    }
+
+    // What a check of them tells, and whether the place says `House` after it.
+    pub(super) fn check(&self) -> (Result<(), CheckFault>, bool) {
+        let mut unit = CheckedUnit::house();
+        let told = self.fill(&mut unit);
         (told, unit.name() == b"House".as_slice())
     }
 }
