@@ -10,7 +10,7 @@ use terms::operator::Operator;
 use terms::row::Row;
 
 // Names at 5, 7 and 9, the first of them again at 12; at 14 a text's end too soon, at 19 a digit, at 22 a newline, at 23 the byte 127, and from 25 on 81 letters.
-pub(super) static BYTES: [u8; 106] =
+static BYTES: [u8; 106] =
     *b"Unit p q r, p /a/) 9x \n\x7f aaaaaaaaaaaaaaaaaaaaaaaaaaaaaaaaaaaaaaaaaaaaaaaaaaaaaaaaaaaaaaaaaaaaaaaaaaaaaaaaa";
 
 #[derive(Clone, Copy)]
