@@ -9,3 +9,5 @@ pub mod ReadStatements
 pub mod ReadUnits
 pub mod Lines
 pub mod Units
+pub mod Language
+pub mod Spelling
