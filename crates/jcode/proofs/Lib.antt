@@ -9,3 +9,7 @@ pub mod Fillings
 pub mod Declarations
 pub mod Statements
 pub mod Units
+pub mod Outcomes
+pub mod Places
+pub mod Agreement
+pub mod Repetition

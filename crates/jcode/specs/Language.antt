@@ -14,6 +14,11 @@ infixr 40 ◌⊙◌
 abbrev pub ◌⊙◌ : Language → Language → Language
 ◌⊙◌ P Q w = (u : List ℕ) × (v : List ℕ) × P u × Q v × (w ≡ u ++ v)
 
+-- one thing after another, and what ends them
+abbrev pub Many : {B : Type 0} → (B → Language) → Language → List B → Language
+Many item end [] = end
+Many item end (b ∷ bs) = item b ⊙ Many item end bs
+
 -- these bytes and no others
 abbrev pub Just : List ℕ → Language
 Just v w = w ≡ v

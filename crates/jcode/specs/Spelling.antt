@@ -10,7 +10,7 @@ use Rattle.jcode.specs.declared.mention.Stage.{Stage}
 use Rattle.jcode.specs.declared.mention.Stage.TheVariants.{Current, New as Renewed}
 use Rattle.jcode.specs.declared.variable.Domain.{Domain}
 use Rattle.jcode.specs.declared.variable.Domain.TheVariants.{Integer, Boolean, Subrange}
-use Rattle.jcode.specs.Language.{Language, ◌⊙◌, Just, Gap, MayGap, End, IsName, Name, Number, Label, Text}
+use Rattle.jcode.specs.Language.{Language, ◌⊙◌, Many, Just, Gap, MayGap, End, IsName, Name, Number, Label, Text}
 use Rattle.jcode.specs.Scopes.{Scope, member}
 use Rattle.jcode.specs.ReadTerms.{UnitRow, operands_after}
 use Rattle.jcode.specs.Sentences.{Sentence, Hang, Break, Require, Proclaim, New, Assign, Split, When, Branch, Join}
@@ -67,8 +67,7 @@ Bracketed P = Just (codes "(") ⊙ MayGap ⊙ P ⊙ Close
 
 -- further names of a list, and its closing bracket
 abbrev pub MoreNames : Scope → List ℕ → Language
-MoreNames sc [] = Close
-MoreNames sc (v ∷ vs) = Gap ⊙ Variable sc v ⊙ MoreNames sc vs
+MoreNames sc = Many (λ v. Gap ⊙ Variable sc v) Close
 
 abbrev pub Names : Scope → List ℕ → Language
 Names sc [] = Just (codes ")")
@@ -93,8 +92,7 @@ Says sc Hang = Just (codes "HANG") ⊙ End
 
 -- statements, and `END`
 abbrev pub Statements : Scope → List (Sentence (List ℕ)) → Language
-Statements sc [] = Just (codes "END") ⊙ End
-Statements sc (s ∷ ss) = Says sc s ⊙ Statements sc ss
+Statements sc = Many (Says sc) (Just (codes "END") ⊙ End)
 
 abbrev pub InDomain : Domain → Language
 InDomain Integer w = Just (codes "integer") w
@@ -115,8 +113,7 @@ abbrev pub Declares : Declared → Language
 Declares d = Name d.name ⊙ HasDomain d.domain
 
 abbrev pub Declarations : List Declared → Language
-Declarations [] = Just []
-Declarations (d ∷ ds) = Declares d ⊙ Declarations ds
+Declarations = Many Declares (Just [])
 
 abbrev pub names_of : List Declared → List (List ℕ)
 names_of ds = map (λ d. d.name) ds
