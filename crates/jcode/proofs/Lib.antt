@@ -13,3 +13,5 @@ pub mod Outcomes
 pub mod Places
 pub mod Agreement
 pub mod Repetition
+pub mod Fronts
+pub mod Marks
