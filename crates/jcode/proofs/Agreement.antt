@@ -1,5 +1,5 @@
 -- A reader agrees with a production of the notation, and so do readers one after another.
-use Rattle.std.proofs.Common.{◌≡◌, ℕ, ◌≤◌, Bool, false, List, length, sym, refl, ap, ◌∙◌, subst, subst₂}
+use Rattle.std.proofs.Common.{◌≡◌, ℕ, ◌≤◌, Bool, false, List, length, sym, refl, ap, ◌∙◌, subst, subst₂, le_trans}
 use Rattle.jcode.specs.declared.refusal.Refusal.TheVariants.{Table}
 use Rattle.jcode.specs.Language.{Language, ◌⊙◌, Spelt}
 use Rattle.jcode.specs.Spelling.{Sizes, limits}
@@ -65,9 +65,13 @@ module _ (tables : Sizes) (bytes : List ℕ) where
   pub stands_as : {A B : Type 0} (view : A → B) {P : Production B} {i j k : ℕ} {a c : A} → got a j ≡ got c k → Stands P i (view a) j → Stands P i (view c) k
   stands_as view {P = P} {i = i} e t = subst₂ (λ a j. Stands P i (view a) j) (got_what e) (got_next e) t
 
-  pub finds_then : {A B C D : Type 0} {view : A → B} {fits : Type 0} {o : Answer A} {b : B} {j : ℕ} (view′ : C → D) (fits′ : Type 0) (d : D) (k : ℕ) (f : A → ℕ → Answer C) → Finds view fits o b j → (fits′ → fits) → ((a : A) → view a ≡ b → Finds view′ fits′ (f a j) d k) → Finds view′ fits′ (and_then o f) d k
-  finds_then view′ fits′ d k f (found a e is) part next = subst (λ o. Finds view′ fits′ o d k) (sym (then_step f e)) (next a is)
+  pub finds_then : {A B C D : Type 0} {view : A → B} {fits : Type 0} {o : Answer A} {b : B} {j : ℕ} (view′ : C → D) (fits′ : Type 0) (d : D) (k : ℕ) (f : A → ℕ → Answer C) → Finds view fits o b j → (fits′ → fits) → ((a : A) → o ≡ got a j → view a ≡ b → Finds view′ fits′ (f a j) d k) → Finds view′ fits′ (and_then o f) d k
+  finds_then view′ fits′ d k f (found a e is) part next = subst (λ o. Finds view′ fits′ o d k) (sym (then_step f e)) (next a e is)
   finds_then view′ fits′ d k f (short place e lacks) part next = short place (ap (λ o. and_then o f) e) (λ n. lacks (part n))
+
+  pub finds_as : {A B : Type 0} {view : A → B} {fits : Type 0} {o : Answer A} {b c : B} {j : ℕ} (fits′ : Type 0) → Finds view fits o b j → (fits′ → fits) → b ≡ c → Finds view fits′ o c j
+  finds_as fits′ (found a e is) part eq = found a e (is ∙ eq)
+  finds_as fits′ (short place e lacks) part eq = short place e (λ m. lacks (part m))
 
   pub after_agrees : {A B : Type 0} {r₁ : Reader (Unit {0})} {L : Language} {p : ℕ → Type 0} {r₂ : Reader A} {view : A → B} {Q : Production B} {q : ℕ → Type 0} → Agrees r₁ (λ u. u) (mark L) p → Agrees r₂ view Q q → Apart p Q q → Agrees (r₁ ▷ r₂) view (ahead L Q) q
   after_agrees {r₁ = r₁} {L = L} {r₂ = r₂} {view = view} {Q = Q} one two apart = record {
@@ -78,7 +82,7 @@ module _ (tables : Sizes) (bytes : List ℕ) where
         record { spelt = joins s₁.spelt s₂.spelt; keeps = s₂.keeps; fits = s₂.fits };
     complete = λ i b j s n stop.
         let c = parts s in
-        finds_then view (Q.needs tables b) b j (λ _ i. r₂ bytes i) (one.complete i tt c.0 c.1 tt (apart b c.0 j c.2 stop)) (λ _. tt) (λ _ _. two.complete c.0 b j c.2 n stop);
+        finds_then view (Q.needs tables b) b j (λ _ i. r₂ bytes i) (one.complete i tt c.0 c.1 tt (apart b c.0 j c.2 stop)) (λ _. tt) (λ _ _ _. two.complete c.0 b j c.2 n stop);
   }
 
   pub before_agrees : {A B : Type 0} {r₁ : Reader A} {view : A → B} {P : Production B} {p : ℕ → Type 0} {r₂ : Reader (Unit {0})} {L : Language} {q : ℕ → Type 0} → Agrees r₁ view P p → Agrees r₂ (λ u. u) (mark L) q → Apart p (mark L) q → Agrees (r₁ ◁ r₂) view (behind P L) q
@@ -92,7 +96,7 @@ module _ (tables : Sizes) (bytes : List ℕ) where
     complete = λ i b j s n stop.
         let c = parts s in
         finds_then view (P.needs tables b) b j (λ a i. and_then (r₂ bytes i) (λ _ j. got a j)) (one.complete i b c.0 c.1 n (apart tt c.0 j c.2 stop)) (λ m. m)
-        (λ a is. finds_then view (P.needs tables b) b j (λ _ j. got a j) (two.complete c.0 tt j c.2 tt stop) (λ _. tt) (λ _ _. found a refl is));
+        (λ a _ is. finds_then view (P.needs tables b) b j (λ _ j. got a j) (two.complete c.0 tt j c.2 tt stop) (λ _. tt) (λ _ _ _. found a refl is));
   }
 
   pub pair_agrees : {A B C D : Type 0} {r₁ : Reader A} {view : A → B} {P : Production B} {p : ℕ → Type 0} {r₂ : A → Reader C} {view′ : C → D} {q : ℕ → Type 0} (Q : B → Production D) → Agrees r₁ view P p → ((a : A) → P.needs limits (view a) → Agrees (r₂ a) view′ (Q (view a)) q) → ((b : B) → Apart p (Q b) q) → Agrees (r₁ ⊗ r₂) (λ c. (view c.0, view′ c.1)) (both P Q) q
@@ -106,9 +110,9 @@ module _ (tables : Sizes) (bytes : List ℕ) where
     complete = λ i b j s n stop.
         let c = parts s in
         finds_then (λ c. (view c.0, view′ c.1)) ((both P Q).needs tables b) b j (λ a i. and_then (r₂ a bytes i) (λ b j. got (a, b) j)) (one.complete i b.0 c.0 c.1 n.0 (apart b.0 b.1 c.0 j c.2 stop)) (λ m. m.0)
-        (λ a is.
+        (λ a _ is.
           let h : Agrees (r₂ a) view′ (Q b.0) q = subst (λ x. Agrees (r₂ a) view′ (Q x) q) is (two a (subst (P.needs limits) (sym is) n.0)) in
-          finds_then (λ c. (view c.0, view′ c.1)) ((both P Q).needs tables b) b j (λ b j. got (a, b) j) (h.complete c.0 b.1 j c.2 n.1 stop) (λ m. m.1) (λ d eq. found (a, d) refl (λ k. (is k, eq k))));
+          finds_then (λ c. (view c.0, view′ c.1)) ((both P Q).needs tables b) b j (λ b j. got (a, b) j) (h.complete c.0 b.1 j c.2 n.1 stop) (λ m. m.1) (λ d _ eq. found (a, d) refl (λ k. (is k, eq k))));
   }
 
   pub image_agrees : {A B C D : Type 0} {r : Reader A} {view : A → B} {P : Production B} {p : ℕ → Type 0} (g : A → C) (view′ : C → D) (f : B → D) (N : Sizes → D → Type 0) → Agrees r view P p → ((a : A) → view′ (g a) ≡ f (view a)) → ((t : Sizes) (b : B) → P.needs t b → N t (f b)) → ((t : Sizes) (b : B) → N t (f b) → P.needs t b) → Agrees (r giving g) view′ (image f P N) p
@@ -125,8 +129,35 @@ module _ (tables : Sizes) (bytes : List ℕ) where
     complete = λ i d j s n stop.
         let b = s.belongs in
         let h = one.complete i b.0 j (record { forward = s.forward; within = s.within; belongs = b.2 }) (back limits b.0 (subst (N limits) (sym b.1) n)) stop in
-        finds_then view′ (N tables d) d j (λ a i. got (g a) i) h (λ m. back tables b.0 (subst (N tables) (sym b.1) m)) (λ a is. found (g a) refl (tied a ∙ ap f is ∙ b.1));
+        finds_then view′ (N tables d) d j (λ a i. got (g a) i) h (λ m. back tables b.0 (subst (N tables) (sym b.1) m)) (λ a _ is. found (g a) refl (tied a ∙ ap f is ∙ b.1));
   }
 
   pub weaken : {A B : Type 0} {r : Reader A} {view : A → B} {P : Production B} {p : ℕ → Type 0} (q : ℕ → Type 0) → ((j : ℕ) → q j → p j) → Agrees r view P p → Agrees r view P q
   weaken q h one = record { sound = one.sound; complete = λ i b j s n stop. one.complete i b j s n (h j stop) }
+
+  -- what a production needs more, which no table bears on
+  abbrev pub kept : {B : Type 0} → (B → Type 0) → Production B → Production B
+  kept T P = record { spells = P.spells; needs = λ t b. T b × P.needs t b }
+
+  -- a reader that goes on only with what passes
+  pub kept_agrees : {A B : Type 0} {r : Reader A} {view : A → B} {P : Production B} {p : ℕ → Type 0} (T : B → Type 0) (f : ℕ → A → ℕ → Answer A) → ((i : ℕ) (a : A) (j : ℕ) → i ≤ length bytes → r bytes i ≡ got a j → T (view a) → f i a j ≡ got a j) → ((i : ℕ) (a : A) (j : ℕ) → i ≤ length bytes → r bytes i ≡ got a j → (c : A) (k : ℕ) → f i a j ≡ got c k → (got a j ≡ got c k) × T (view a)) → Agrees r view P p → Agrees (λ bytes i. and_then (r bytes i) (f i)) view (kept T P) p
+  kept_agrees {r = r} {view = view} {P = P} T f passes passed one = record {
+    sound = λ i c k l e.
+        let t = then_got (r bytes i) (f i) e in
+        let s = one.sound i t.0 t.1 l t.2 in
+        let h = passed i t.0 t.1 l t.2 c k t.3 in
+        stands_as view h.0 (record { spelt = s.spelt; keeps = (h.1, s.keeps); fits = (h.1, s.fits) });
+    complete = λ i b j s n stop.
+        finds_then view ((kept T P).needs tables b) b j (f i) (one.complete i b j s n.1 stop) (λ m. m.1)
+        (λ a e is. found a (passes i a j (le_trans s.forward s.within) e (subst T (sym is) n.0)) is);
+  }
+
+  -- which stands in what spells it as well
+  pub spelling : {A B : Type 0} {r : Reader A} {view : A → B} {P : Production B} {p : ℕ → Type 0} (T : B → Type 0) → Agrees r view (kept T P) p → Agrees r view (record { spells = λ b w. T b × P.spells b w; needs = P.needs }) p
+  spelling {view = view} {P = P} T one = record {
+    sound = λ i a j l e.
+        let s = one.sound i a j l e in
+        record { spelt = record { forward = s.spelt.forward; within = s.spelt.within; belongs = (s.keeps.0, s.spelt.belongs) }; keeps = s.keeps.1; fits = s.fits.1 };
+    complete = λ i b j s n stop.
+        finds_as _ (one.complete i b j (record { forward = s.forward; within = s.within; belongs = s.belongs.1 }) (s.belongs.0, n) stop) (λ m. (s.belongs.0, m)) refl;
+  }

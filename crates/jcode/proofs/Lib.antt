@@ -15,3 +15,5 @@ pub mod Agreement
 pub mod Repetition
 pub mod Fronts
 pub mod Marks
+pub mod Classes
+pub mod Words

@@ -8,7 +8,7 @@ use Rattle.jcode.specs.Spelling.{Sizes, limits}
 use Rattle.jcode.specs.Pieces.{Answer, got, Reader, refuse, and_then, repeated}
 use Rattle.jcode.proofs.Outcomes.{then_got, either_got}
 use Rattle.jcode.proofs.Places.{joins, parts}
-use Rattle.jcode.proofs.Agreement.{Production, Finds, found, short, Stands, Agrees, finds_then}
+use Rattle.jcode.proofs.Agreement.{Production, Finds, found, short, Stands, Agrees, finds_then, finds_as}
 
 -- after so many things, each has its place and what it needs after those that are seen
 abbrev pub AllNeed : {B : Type 0} → (ℕ → Type 0) → (List B → B → Type 0) → ℕ → List B → List B → Type 0
@@ -101,15 +101,11 @@ module _ (tables : Sizes) (bytes : List ℕ) {A B : Type 0} (more : List ℕ →
         let V = map view seen in
         let after_one = finds_then tables bytes (map view) (All tables n V (b ∷ bs)) (V ++ b ∷ bs) j (λ a j. repeated more step done left (seen ++ a ∷ []) bytes j)
             ((r.items seen).complete i b c.0 c.1 need.1 (stops bs c.0 j c.2 stop)) (λ m. m.1)
-            (λ a is.
+            (λ a _ is.
               let e : map view (seen ++ a ∷ []) ≡ V ++ b ∷ [] = map_push view seen a ∙ ap (λ x. V ++ x ∷ []) is in
               let h = many_complete left (n + 1) (seen ++ a ∷ []) c.0 bs j (omega arith) c.2 (subst (λ s. All limits (n + 1) s bs) (sym e) need.2) stop in
-              again (All tables n V (b ∷ bs)) (V ++ b ∷ bs) (λ m. subst (λ s. All tables (n + 1) s bs) (sym e) m.2) (ap (λ s. s ++ bs) e ∙ append_assoc V (b ∷ []) bs) h) in
+              finds_as tables bytes (All tables n V (b ∷ bs)) h (λ m. subst (λ s. All tables (n + 1) s bs) (sym e) m.2) (ap (λ s. s ++ bs) e ∙ append_assoc V (b ∷ []) bs)) in
         subst (λ o. FindsMany n seen o (b ∷ bs) j) (sym (cond-true _ _ _ (r.goes_on b i c.0 c.1))) after_one
-      where
-        again : {fits : Type 0} {o : Answer (List A)} {ds : List B} {j : ℕ} (fits′ : Type 0) (es : List B) → (fits′ → fits) → ds ≡ es → Finds tables bytes (map view) fits o ds j → Finds tables bytes (map view) fits′ o es j
-        again fits′ es part e (found a h is) = found a h (is ∙ e)
-        again fits′ es part e (short place h lacks) = short place h (λ m. lacks (part m))
 
     pub many_agrees : Agrees tables bytes (repeated more step done most []) (map view) (record { spells = Many item end; needs = λ t. All t 0 [] }) q
     many_agrees = record {
