@@ -17,3 +17,5 @@ pub mod Fronts
 pub mod Marks
 pub mod Classes
 pub mod Words
+pub mod Variables
+pub mod Numbers
