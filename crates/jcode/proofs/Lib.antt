@@ -19,3 +19,4 @@ pub mod Classes
 pub mod Words
 pub mod Variables
 pub mod Numbers
+pub mod Texts
