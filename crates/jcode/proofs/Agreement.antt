@@ -1,11 +1,12 @@
 -- A reader agrees with a production of the notation, and so do readers one after another.
 use Rattle.std.proofs.Common.{◌≡◌, ℕ, ◌≤◌, Bool, false, List, length, sym, refl, ap, ◌∙◌, subst, subst₂, le_trans}
+use Rattle.jcode.specs.declared.refusal.Refusal.{Refusal}
 use Rattle.jcode.specs.declared.refusal.Refusal.TheVariants.{Table}
 use Rattle.jcode.specs.Language.{Language, ◌⊙◌, Spelt}
 use Rattle.jcode.specs.Spelling.{Sizes, limits}
 use Rattle.jcode.specs.Pieces.{Answer, got, Reader, refuse, and_then, ◌▷◌, ◌◁◌, ◌⊗◌, ◌giving◌}
-use Rattle.jcode.proofs.Outcomes.{got_what, got_next, then_got, then_step}
-use Rattle.jcode.proofs.Places.{byte, joins, parts}
+use Rattle.jcode.proofs.Outcomes.{refused_got, got_what, got_next, then_got, then_step}
+use Rattle.jcode.proofs.Places.{byte, joins, parts, spelt_as}
 
 -- what spells a thing, and what it needs of tables of these sizes
 pub record Production (B : Type 0) : Type 1 where
@@ -161,3 +162,23 @@ module _ (tables : Sizes) (bytes : List ℕ) where
     complete = λ i b j s n stop.
         finds_as _ (one.complete i b j (record { forward = s.forward; within = s.within; belongs = s.belongs.1 }) (s.belongs.0, n) stop) (λ m. (s.belongs.0, m)) refl;
   }
+
+  -- the same production in other words
+  pub renamed : {A B : Type 0} {r : Reader A} {view : A → B} {P : Production B} {p : ℕ → Type 0} (Q : Production B) → ((b : B) (w : List ℕ) → P.spells b w → Q.spells b w) → ((b : B) (w : List ℕ) → Q.spells b w → P.spells b w) → ((t : Sizes) (b : B) → P.needs t b → Q.needs t b) → ((t : Sizes) (b : B) → Q.needs t b → P.needs t b) → Agrees r view P p → Agrees r view Q p
+  renamed {view = view} Q there back needs_there needs_back one = record {
+    sound = λ i a j l e.
+        let s = one.sound i a j l e in
+        record { spelt = spelt_as (there (view a)) s.spelt; keeps = needs_there limits (view a) s.keeps; fits = needs_there tables (view a) s.fits };
+    complete = λ i b j s n stop. finds_as (Q.needs tables b) (one.complete i b j (spelt_as (back b) s) (needs_back limits b n) stop) (needs_back tables b) refl;
+  }
+
+  -- a reader that does the same
+  pub same_agrees : {A B : Type 0} {r : Reader A} {view : A → B} {P : Production B} {p : ℕ → Type 0} (q : Reader A) → ((i : ℕ) → q bytes i ≡ r bytes i) → Agrees r view P p → Agrees q view P p
+  same_agrees {view = view} {P = P} q same one = record {
+    sound = λ i a j l e. one.sound i a j l (sym (same i) ∙ e);
+    complete = λ i b j s n stop. subst (λ o. Finds view (P.needs tables b) o b j) (sym (same i)) (one.complete i b j s n stop);
+  }
+
+  -- a reader that always refuses reads nothing
+  pub nothing_agrees : {A B : Type 0} (view : A → B) (r : Refusal) (place : ℕ → ℕ) (p : ℕ → Type 0) → Agrees (λ bytes i. refuse r (place i)) view (plain (λ b w. ⊥)) p
+  nothing_agrees view r place p = record { sound = λ i a j l e. absurd (refused_got e); complete = λ i b j s n stop. absurd s.belongs }

@@ -20,3 +20,4 @@ pub mod Words
 pub mod Variables
 pub mod Numbers
 pub mod Texts
+pub mod Rows

@@ -2,7 +2,7 @@
 use Rattle.std.proofs.Common.{◌≡◌, ℕ, ◌+◌, ◌-◌, ◌<◌, ◌≤◌, List, [], ◌++◌, length, get_or, take, drop, sym, ap, ◌∙◌, subst, arith, length-take, length-drop}
 use Rattle.std.proofs.Math.Seq.{take-add}
 use Rattle.std.proofs.lemmas.List.{take_at, take-take, drop-drop, drop-take, drop_at, get_or-take, get_or-drop, length-append}
-use Rattle.jcode.specs.Language.{Language, ◌⊙◌, between, Spelt}
+use Rattle.jcode.specs.Language.{Language, ◌⊙◌, Just, between, Spelt}
 
 abbrev pub byte : List ℕ → ℕ → ℕ
 byte bytes i = get_or bytes i 0
@@ -77,3 +77,7 @@ module _ {bytes : List ℕ} where
     within = omega (arith, length-drop i bytes);
     belongs = subst (λ n. P (take n (drop i bytes))) (sym m) p;
   }
+
+  -- these bytes end there
+  pub just_next : {w : List ℕ} {i j : ℕ} → Spelt (Just w) bytes i j → i + length w ≡ j
+  just_next {i = i} {j = j} s = let f = s.forward in omega (arith, length_between bytes i j s.within, ap length s.belongs)
