@@ -21,3 +21,4 @@ pub mod Variables
 pub mod Numbers
 pub mod Texts
 pub mod Rows
+pub mod Terms
