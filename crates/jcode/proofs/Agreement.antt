@@ -34,6 +34,10 @@ both P Q = record { spells = λ p. P.spells p.0 ⊙ (Q p.0).spells p.1; needs = 
 abbrev pub image : {B D : Type 0} → (B → D) → Production B → (Sizes → D → Type 0) → Production D
 image {B} f P N = record { spells = λ d w. (b : B) × (f b ≡ d) × P.spells b w; needs = N }
 
+-- what it needs more, which no table bears on
+abbrev pub kept : {B : Type 0} → (B → Type 0) → Production B → Production B
+kept T P = record { spells = P.spells; needs = λ t b. T b × P.needs t b }
+
 -- no byte of the class stands at a place
 abbrev pub Stops : (ℕ → Bool) → List ℕ → ℕ → Type 0
 Stops p bytes i = p (byte bytes i) ≡ false
@@ -73,6 +77,11 @@ module _ (tables : Sizes) (bytes : List ℕ) where
   pub finds_as : {A B : Type 0} {view : A → B} {fits : Type 0} {o : Answer A} {b c : B} {j : ℕ} (fits′ : Type 0) → Finds view fits o b j → (fits′ → fits) → b ≡ c → Finds view fits′ o c j
   finds_as fits′ (found a e is) part eq = found a e (is ∙ eq)
   finds_as fits′ (short place e lacks) part eq = short place e (λ m. lacks (part m))
+
+  -- what fits any tables is found
+  pub surely : {A B : Type 0} {view : A → B} {o : Answer A} {b : B} {j : ℕ} → Finds view (Unit {0}) o b j → (a : A) × (o ≡ got a j) × (view a ≡ b)
+  surely (found a e is) = (a, e, is)
+  surely (short place e lacks) = absurd (lacks tt)
 
   pub after_agrees : {A B : Type 0} {r₁ : Reader (Unit {0})} {L : Language} {p : ℕ → Type 0} {r₂ : Reader A} {view : A → B} {Q : Production B} {q : ℕ → Type 0} → Agrees r₁ (λ u. u) (mark L) p → Agrees r₂ view Q q → Apart p Q q → Agrees (r₁ ▷ r₂) view (ahead L Q) q
   after_agrees {r₁ = r₁} {L = L} {r₂ = r₂} {view = view} {Q = Q} one two apart = record {
@@ -135,10 +144,6 @@ module _ (tables : Sizes) (bytes : List ℕ) where
 
   pub weaken : {A B : Type 0} {r : Reader A} {view : A → B} {P : Production B} {p : ℕ → Type 0} (q : ℕ → Type 0) → ((j : ℕ) → q j → p j) → Agrees r view P p → Agrees r view P q
   weaken q h one = record { sound = one.sound; complete = λ i b j s n stop. one.complete i b j s n (h j stop) }
-
-  -- what a production needs more, which no table bears on
-  abbrev pub kept : {B : Type 0} → (B → Type 0) → Production B → Production B
-  kept T P = record { spells = P.spells; needs = λ t b. T b × P.needs t b }
 
   -- a reader that goes on only with what passes
   pub kept_agrees : {A B : Type 0} {r : Reader A} {view : A → B} {P : Production B} {p : ℕ → Type 0} (T : B → Type 0) (f : ℕ → A → ℕ → Answer A) → ((i : ℕ) (a : A) (j : ℕ) → i ≤ length bytes → r bytes i ≡ got a j → T (view a) → f i a j ≡ got a j) → ((i : ℕ) (a : A) (j : ℕ) → i ≤ length bytes → r bytes i ≡ got a j → (c : A) (k : ℕ) → f i a j ≡ got c k → (got a j ≡ got c k) × T (view a)) → Agrees r view P p → Agrees (λ bytes i. and_then (r bytes i) (f i)) view (kept T P) p

@@ -22,3 +22,5 @@ pub mod Numbers
 pub mod Texts
 pub mod Rows
 pub mod Terms
+pub mod Distinct
+pub mod Lists

@@ -14,7 +14,7 @@ use Rattle.jcode.specs.Scopes.{Scope}
 use Rattle.jcode.specs.ReadTerms.{UnitRow, read_row, operands_after, read_open, read_begin, read_close, read_lead, read_operands, read_whole, read_term}
 use Rattle.jcode.proofs.Outcomes.{refused_got, got_what, got_next, then_got, then_step, unless_got}
 use Rattle.jcode.proofs.Places.{byte, length_between, parts, spelt_as, spelt_none}
-use Rattle.jcode.proofs.Agreement.{Production, plain, mark, ahead, behind, both, Stops, Anywhere, Finds, found, short, Agrees, after_agrees, before_agrees, pair_agrees, image_agrees, renamed, same_agrees}
+use Rattle.jcode.proofs.Agreement.{Production, plain, mark, ahead, behind, both, Stops, Anywhere, Finds, found, short, Agrees, surely, after_agrees, before_agrees, pair_agrees, image_agrees, renamed, same_agrees}
 use Rattle.jcode.proofs.Marks.{gap_agrees, may_gap_agrees, mark_agrees}
 use Rattle.jcode.proofs.Classes.{head_byte, begins_with, white_begins, may_gap_stops, separator_no_head}
 use Rattle.jcode.proofs.Rows.{row_agrees, row_stops}
@@ -32,11 +32,6 @@ ungroup w h =
 
 pub under : {P Q R : Language} → ((w : List ℕ) → Q w → R w) → (w : List ℕ) → (P ⊙ Q) w → (P ⊙ R) w
 under f w h = (h.0, h.1, h.2, f h.1 h.3, h.4)
-
--- what surely stands is found
-surely : {tables : Sizes} {bytes : List ℕ} {o : Answer (Unit {0})} {j : ℕ} → Finds tables bytes (λ u. u) (Unit {0}) o tt j → o ≡ got tt j
-surely (found a e is) = e
-surely (short place e lacks) = absurd (lacks tt)
 
 module _ {A B C : Type 0} (h : A → B → C) where
   pair_step : (o : Answer A) (f : A → ℕ → Answer B) → and_then o (λ a i. and_then (f a i) (λ b j. got (h a b) j)) ≡ and_then {A = A × B} (and_then o (λ a i. and_then (f a i) (λ b j. got (a, b) j))) (λ p k. got (h p.0 p.1) k)
@@ -126,7 +121,7 @@ module _ (tables : Sizes) (bytes : List ℕ) where
           complete = λ i r j s n stop.
               let rest : Unit {0} → ℕ → Answer UnitRow = λ _ j. (read_may_gap ▷ read_row sc) bytes j in
               let c = parts s in
-              let opened : read_mark (codes "(") bytes i ≡ got tt c.0 = surely ((mark_agrees tables bytes (codes "(")).complete i tt c.0 c.1 tt tt) in
+              let opened : read_mark (codes "(") bytes i ≡ got tt c.0 = (surely tables bytes ((mark_agrees tables bytes (codes "(")).complete i tt c.0 c.1 tt tt)).1 in
               let guarded : read_open (suc k) tables.rows used bytes i ≡ cond (leb tables.rows used) (refuse Table i) (got tt c.0) = then_step (guard i) opened ∙ cond-false _ _ _ (ne_eqb (suc k) 0 (λ e. omega arith)) ∙ cond-false _ _ _ (lt-leb 2000 used n) in
               ⊎_elim
               (λ h.
