@@ -24,3 +24,4 @@ pub mod Rows
 pub mod Terms
 pub mod Distinct
 pub mod Lists
+pub mod Verbs

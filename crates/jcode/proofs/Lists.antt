@@ -131,3 +131,67 @@ module _ (tables : Sizes) (bytes : List ℕ) (sc : Scope) (once : IsDistinct sam
           listed : (a v : ℕ) (vs : List ℕ) → a ≡ v → {o : Answer (List ℕ)} {j : ℕ} → Finds tables bytes (map (λ v. v)) (SomeFresh a vs) o (a ∷ vs) j → Finds tables bytes (λ vs. vs) (NoneTwice (v ∷ vs) × Unit {0}) o (v ∷ vs) j
           listed a v vs same (found all e is) = found all e (sym (map-id all) ∙ is ∙ ap (λ a. a ∷ vs) same)
           listed a v vs same (short place e lacks) = short place e (λ m. lacks (subst (λ a. SomeFresh a vs) (sym same) (twice_back v vs m.0)))
+
+  names_stop : (vs : List ℕ) {i j : ℕ} → Spelt (Names sc vs) bytes i j → Stops separator bytes i
+  names_stop [] s = ap separator (begins_with bytes 41 [] (omega arith) s)
+  names_stop (v ∷ vs) s = variable_stops tables bytes sc once v (parts s).1
+
+  pub listing_agrees : Agrees tables bytes (read_listing sc) (λ vs. vs) (plain (Listing sc)) Anywhere
+  unfolding read_listing
+  listing_agrees =
+      renamed tables bytes (plain (Listing sc)) (λ vs w h. (h.0.0, h.0.1, h.1)) (λ vs w h. ((h.0, h.1), h.2)) (λ t vs n. n) (λ t vs n. n)
+      (spelling tables bytes {P = plain (λ vs. Just (codes "(") ⊙ MayGap ⊙ Names sc vs)} NoneTwice
+        (after_agrees tables bytes (mark_agrees tables bytes (codes "("))
+          (after_agrees tables bytes (may_gap_agrees tables bytes) names_agrees (λ vs i j s stop. names_stop vs s))
+          (λ vs i j s stop. tt)))
+
+  close_after_name : (v : ℕ) {i j : ℕ} → Spelt (Variable sc v ⊙ Close) bytes i j → Stops separator bytes i
+  close_after_name v s = variable_stops tables bytes sc once v (parts s).1
+
+  pub single_agrees : Agrees tables bytes (read_single sc) (λ v. v) (plain (λ v. Bracketed (Variable sc v))) Anywhere
+  unfolding read_single
+  single_agrees =
+      after_agrees tables bytes (mark_agrees tables bytes (codes "("))
+      (after_agrees tables bytes (may_gap_agrees tables bytes)
+        (before_agrees tables bytes (variable_agrees tables bytes sc once) (close_agrees tables bytes) (λ b i j s stop. close_stops tables bytes name_byte separator_no_name refl s))
+        (λ v i j s stop. close_after_name v s))
+      (λ v i j s stop. tt)
+
+  again_agrees : (v : ℕ) → Agrees tables bytes (read_again sc v) (λ u. u) (mark (Variable sc v)) (Stops name_byte bytes)
+  unfolding read_again
+  again_agrees v = record {
+    sound = λ i a j l e.
+        let t = then_got (read_variable sc bytes i) (λ u j. cond (eqb u v) (got tt j) (refuse Unknown i)) e in
+        let u = when_got (eqb t.0 v) (got tt t.1) _ t.3 in
+        let s = ((variable_agrees tables bytes sc once).sound i t.0 t.1 l t.2).spelt in
+        record { spelt = subst (Spelt (Variable sc v) bytes i) (got_next u.1) (subst (λ v. Spelt (Variable sc v) bytes i t.1) (eqb-true t.0 v u.0) s); keeps = tt; fits = tt };
+    complete = λ i b j s n stop.
+        finds_then tables bytes (λ u. u) (Unit {0}) tt j (λ u j. cond (eqb u v) (got tt j) (refuse Unknown i))
+        ((variable_agrees tables bytes sc once).complete i v j s tt stop) (λ m. tt)
+        (λ a _ is. found tt (cond-true _ _ _ (eq-eqb a v is)) refl);
+  }
+
+  repeated_agrees : (v : ℕ) → Agrees tables bytes (read_repeated sc v) (λ u. u) (mark (MayGap ⊙ Bracketed (Variable sc v))) Anywhere
+  unfolding read_repeated
+  repeated_agrees v =
+      after_agrees tables bytes (may_gap_agrees tables bytes)
+      (after_agrees tables bytes (mark_agrees tables bytes (codes "("))
+        (after_agrees tables bytes (may_gap_agrees tables bytes)
+          (after_agrees tables bytes (again_agrees v) (close_agrees tables bytes) (λ b i j s stop. close_stops tables bytes name_byte separator_no_name refl s))
+          (λ b i j s stop. close_after_name v s))
+        (λ b i j s stop. tt))
+      (λ b i j s stop. ap separator (begins_with bytes 40 [] (omega arith) (parts s).1))
+
+  -- ASSIGN's variable, in brackets twice
+  abbrev pub Target : ℕ → Language
+  Target v = Bracketed (Variable sc v) ⊙ MayGap ⊙ Bracketed (Variable sc v)
+
+  pub target_agrees : Agrees tables bytes (read_target sc) (λ v. v) (plain Target) Anywhere
+  target_agrees =
+      renamed tables bytes (plain Target) (λ v w h. subst (λ v. Target v w) h.1 h.2) (λ v w h. ((v, tt), refl, h)) (λ t v n. n) (λ t v n. n)
+      (image_agrees tables bytes (λ p. p.0) (λ v. v) (λ p. p.0) (λ t v. Unit {0})
+        (pair_agrees tables bytes (λ v. mark (MayGap ⊙ Bracketed (Variable sc v))) single_agrees (λ v _. repeated_agrees v) (λ v b i j s stop. tt))
+        (λ p. refl) (λ t p n. tt) (λ t p n. (tt, tt)))
+
+  pub target_stops : (v : ℕ) {i j : ℕ} → Spelt (Target v) bytes i j → Stops separator bytes i
+  target_stops v s = ap separator (begins_with bytes 40 [] (omega arith) (parts (parts s).1).1)
