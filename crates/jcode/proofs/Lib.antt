@@ -25,3 +25,4 @@ pub mod Terms
 pub mod Distinct
 pub mod Lists
 pub mod Verbs
+pub mod Saying

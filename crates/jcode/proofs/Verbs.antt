@@ -91,7 +91,7 @@ module _ (tables : Sizes) (bytes : List ℕ) where
     abbrev told : Sentence Span → Sentence (List ℕ)
     told = retold (slice bytes)
 
-    verb_agrees : (v : Verb) → Agrees tables bytes (by_verb sc tables.rows used v) told (spoken v) Sep
+    pub verb_agrees : (v : Verb) → Agrees tables bytes (by_verb sc tables.rows used v) told (spoken v) Sep
     verb_agrees verb.Break = image_agrees tables bytes Break told Break FewRows text_end_agrees (λ a. refl) (λ t b n. omega arith) (λ t b n. tt)
     verb_agrees verb.Require =
         image_agrees tables bytes (λ p. Require p.0 p.1) told (λ p. Require p.0 p.1) FewRows
