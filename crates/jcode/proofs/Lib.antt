@@ -26,3 +26,4 @@ pub mod Distinct
 pub mod Lists
 pub mod Verbs
 pub mod Saying
+pub mod Declaring
