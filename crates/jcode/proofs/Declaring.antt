@@ -1,5 +1,5 @@
 -- Declarations: reading and spelling agree.
-use Rattle.std.proofs.Common.{◌≡◌, ℕ, zero, suc, ◌+◌, ◌-◌, ◌<◌, ◌≤◌, ◌≤ℤ◌, min, Bool, true, false, cond, not, ◌||◌, ltb, List, [], ◌∷◌, ◌++◌, map, length, get_or, ℤ, Some, None, Option, sym, refl, ap, ◌∙◌, subst, inl, inr, ⊎_elim, arith}
+use Rattle.std.proofs.Common.{◌≡◌, ℕ, zero, suc, ◌+◌, ◌-◌, ◌<◌, ◌≤◌, ◌≤ℤ◌, min, Bool, true, false, cond, not, ◌||◌, ltb, eqb, List, [], ◌∷◌, ◌++◌, map, length, get_or, ℤ, Some, None, Option, sym, refl, ap, ◌∙◌, subst, inl, inr, ⊎_elim, arith}
 use Rattle.std.specs.Prelude.{codes, int_le}
 use Rattle.std.specs.List.{IsDistinct, list_any}
 use Rattle.std.proofs.lemmas.Bool.{cond-true, cond-false, lt-ltb, or_parts}
@@ -23,7 +23,7 @@ use Rattle.jcode.specs.ReadUnits.{domain_word, domain_of, read_high, read_bounds
 use Rattle.jcode.specs.Units.{Declared, declared_in}
 use Rattle.jcode.proofs.Outcomes.{refused_got, got_what, got_next, then_got, then_step, when_got, unless_got}
 use Rattle.jcode.proofs.Places.{byte, joins, parts, spelt_as, spelt_none, just_next}
-use Rattle.jcode.proofs.Agreement.{Production, plain, mark, kept, Stops, Anywhere, Stands, Finds, found, short, Agrees, surely, finds_then, after_agrees, before_agrees, pair_agrees, image_agrees, kept_agrees, weaken, renamed}
+use Rattle.jcode.proofs.Agreement.{Production, plain, mark, kept, Stops, Anywhere, Stands, Finds, found, short, Agrees, surely, finds_then, after_agrees, before_agrees, pair_agrees, image_agrees, kept_agrees, renamed, same_agrees}
 use Rattle.jcode.proofs.Repetition.{AllNeed, Repeats, many_agrees}
 use Rattle.jcode.proofs.Fronts.{stands_byte}
 use Rattle.jcode.proofs.Marks.{gap_agrees, may_gap_agrees, mark_agrees, end_agrees, past_gap_is}
@@ -31,7 +31,8 @@ use Rattle.jcode.proofs.Classes.{begins, begins_with, white_begins, may_gap_stop
 use Rattle.jcode.proofs.Words.{word_first, word_agrees, name_agrees, keyword_agrees}
 use Rattle.jcode.proofs.Numbers.{byte_stands, number_agrees}
 use Rattle.jcode.proofs.Rows.{first_is, number_stops}
-use Rattle.jcode.proofs.Terms.{close_agrees, close_stops, regroup, ungroup, under}
+use Rattle.jcode.proofs.Terms.{close_agrees, close_stops}
+use Rattle.jcode.proofs.Grouping.{regroup, ungroup, under, regroup3, ungroup3, regroup4, ungroup4}
 use Rattle.jcode.proofs.Distinct.{same_word_laws, Fresh, AllFresh, fresh_there, fresh_back}
 
 module _ (tables : Sizes) (bytes : List ℕ) where
@@ -177,16 +178,125 @@ module _ (tables : Sizes) (bytes : List ℕ) where
   declared_agrees : Agrees tables bytes read_declared (λ d. d) (plain HasDomain) Sep
   unfolding read_declared
   declared_agrees =
-      after_agrees tables bytes colon_agrees
-      (after_agrees tables bytes class_agrees
-        (before_agrees tables bytes domain_agrees closing_agrees (λ b i j s stop. close_stops tables bytes name_byte separator_no_name refl (parts s).1))
-        (λ d i j s stop. domain_begins d (parts s).1))
-      (λ d i j s stop. tt)
+      renamed tables bytes (plain HasDomain) (λ d. nested) (λ d. unnested) (λ t d n. n) (λ t d n. n)
+      (after_agrees tables bytes colon_agrees
+        (after_agrees tables bytes class_agrees
+          (before_agrees tables bytes domain_agrees closing_agrees (λ b i j s stop. close_stops tables bytes name_byte separator_no_name refl (parts s).1))
+          (λ d i j s stop. domain_begins d (parts s).1))
+        (λ d i j s stop. tt))
+    where
+      -- as the brackets nest, and as the parts are read
+      nested : {A B C O M V D K E : Language} (w : List ℕ) → ((A ⊙ B ⊙ C ⊙ O) ⊙ (M ⊙ V ⊙ A ⊙ O ⊙ M) ⊙ D ⊙ K ⊙ K ⊙ E) w → (A ⊙ B ⊙ C ⊙ (O ⊙ M ⊙ (V ⊙ A ⊙ (O ⊙ M ⊙ D ⊙ K)) ⊙ K) ⊙ E) w
+      nested w h = under (under (under (λ w h. ungroup4 w (under (under (λ w h. ungroup3 w (under (under ungroup4) w h))) w (under (λ w h. under regroup4 w (regroup w h)) w h))))) w (regroup4 w h)
+
+      unnested : {A B C O M V D K E : Language} (w : List ℕ) → (A ⊙ B ⊙ C ⊙ (O ⊙ M ⊙ (V ⊙ A ⊙ (O ⊙ M ⊙ D ⊙ K)) ⊙ K) ⊙ E) w → ((A ⊙ B ⊙ C ⊙ O) ⊙ (M ⊙ V ⊙ A ⊙ O ⊙ M) ⊙ D ⊙ K ⊙ K ⊙ E) w
+      unnested w h = ungroup4 w (under (under (under (λ w h. under (λ w h. ungroup w (under ungroup4 w h)) w (under (under (λ w h. under (under regroup4) w (regroup3 w h))) w (regroup4 w h))))) w h)
 
   domain_follows : (d : Domain) {i j : ℕ} → Spelt (HasDomain d) bytes i j → (k : ℕ) × Spelt MayGap bytes i k × (byte bytes k ≡ 58)
   domain_follows d s =
-      let c = parts (parts s).1 in
+      let c = parts s in
       (c.0, c.1, begins_with bytes 58 [] (omega arith) (parts c.2).1)
 
   no_name_follows : (d : Domain) {i j : ℕ} → Spelt (HasDomain d) bytes i j → Stops name_byte bytes i
   no_name_follows d s = let f = domain_follows d s in may_gap_stops bytes name_byte separator_no_name f.1 (ap name_byte f.2)
+
+  abbrev told : Variable → Declared
+  told = declared_in bytes
+
+  -- a name that none of these has, as it is read
+  names_any : (w : List ℕ) (seen : List Variable) → list_any (λ v. same_word w (name_in bytes v)) seen ≡ list_any (λ d. same_word w d.name) (map told seen)
+  names_any w [] = refl
+  names_any w (v ∷ seen) = ap (λ t. same_word w (name_in bytes v) || t) (names_any w seen)
+
+  abbrev IsNew : List Variable → List ℕ → Type 0
+  IsNew seen w = list_any (λ d. same_word w d.name) (map told seen) ≡ false
+
+  fresh_agrees : (seen : List Variable) → Agrees tables bytes (read_fresh seen) (slice bytes) (kept (IsNew seen) (plain Name)) (Stops name_byte bytes)
+  unfolding read_fresh
+  fresh_agrees seen =
+      same_agrees tables bytes (read_fresh seen) (λ i. refl)
+      (kept_agrees tables bytes (IsNew seen) (λ i s j. cond (list_any (λ v. same_word (slice bytes s) (name_in bytes v)) seen) (refuse Unknown i) (got s j))
+        (λ i s j l e h. cond-false _ _ _ (names_any (slice bytes s) seen ∙ h))
+        (λ i s j l e c k h.
+          let u = unless_got (list_any (λ v. same_word (slice bytes s) (name_in bytes v)) seen) (got s j) _ h in
+          (u.1, sym (names_any (slice bytes s) seen) ∙ u.0))
+        (name_agrees tables bytes))
+
+  abbrev NeedsNew : Sizes → List Declared → Declared → Type 0
+  NeedsNew t seen d = Fresh same_word same_word_laws (λ d. d.name) seen d × Unit {0}
+
+  abbrev made : List ℕ × Domain → Declared
+  made p = record { name = p.0; domain = p.1 }
+
+  declaration_agrees : (seen : List Variable) → Agrees tables bytes (read_declaration seen) told (record { spells = Declares; needs = λ t. NeedsNew t (map told seen) }) Sep
+  declaration_agrees seen =
+      renamed tables bytes (record { spells = Declares; needs = λ t. NeedsNew t (map told seen) })
+      (λ d w h. subst (λ d. Declares d w) h.1 h.2) (λ d w h. ((d.name, d.domain), refl, h)) (λ t d n. n) (λ t d n. n)
+      (image_agrees tables bytes (λ p. record { name = p.0; domain = p.1 }) told made (λ t. NeedsNew t (map told seen))
+        (pair_agrees tables bytes (λ _. plain HasDomain) (fresh_agrees seen) (λ s _. declared_agrees) (λ n d i j s stop. no_name_follows d s))
+        (λ p. refl) (λ t p n. n.0) (λ t p n. (n, tt)))
+
+  entry_agrees : (r : Refusal) (seen : List Variable) → Agrees tables bytes (read_entry r false seen) told (record { spells = Declares; needs = λ t. NeedsNew t (map told seen) }) Sep
+  unfolding read_entry
+  entry_agrees r seen = declaration_agrees seen
+
+  entry_refused : (r : Refusal) (seen : List Variable) (i : ℕ) (v : Variable) (j : ℕ) → read_entry r true seen bytes i ≡ got v j → ⊥
+  unfolding read_entry
+  entry_refused r seen i v j e = refused_got (then_got (read_name bytes i) (λ s j. refuse r i) e).3
+
+  name_read : (d : Declared) {i j : ℕ} → Spelt (Declares d) bytes i j → (k : ℕ) × Spelt (Name d.name) bytes i k × Spelt (HasDomain d.domain) bytes k j
+  name_read d s = parts s
+
+  no_room : (r : Refusal) (seen : List Variable) (d : Declared) (i j : ℕ) → Spelt (Declares d) bytes i j → read_entry r true seen bytes i ≡ refuse r i
+  unfolding read_entry
+  no_room r seen d i j s =
+      let c = parts s in
+      then_step (λ s j. refuse r i) (surely tables bytes ((name_agrees tables bytes).complete i d.name c.0 c.1 tt (no_name_follows d.domain c.2))).1
+
+  opens : (d : Declared) {i j : ℕ} → Spelt (Declares d) bytes i j → opens_declaration bytes i ≡ true
+  opens d {i = i} s =
+      let c = parts s in
+      let r = surely tables bytes ((word_agrees tables bytes).complete i d.name c.0 (spelt_as (λ w h. (h.0.0, h.1)) c.1) tt (no_name_follows d.domain c.2)) in
+      let f = domain_follows d.domain c.2 in
+      ap (colon_after bytes) r.1
+      ∙ ap (stands 58 bytes) (past_gap_is tables bytes c.0 f.0 f.1 (ap separator f.2))
+      ∙ stands_byte 58 (omega arith) bytes f.0
+      ∙ ap (λ b. eqb b 58) f.2
+
+  -- where no declaration follows
+  abbrev pub Over : ℕ → Type 0
+  Over j = Sep j × (opens_declaration bytes j ≡ false)
+
+  abbrev most : ℕ
+  most = min tables.variables 32
+
+  repeats : Repeats tables bytes opens_declaration (read_entry (full_by tables.variables 32)) (λ seen bytes at. got seen at) told Declares (Just []) (λ t n. n < t.variables) NeedsNew Sep Over most
+  repeats = record {
+    items = entry_agrees (full_by tables.variables 32);
+    ends = λ seen i all j l e. (sym (got_what e), subst (Spelt (Just []) bytes i) (got_next e) (spelt_none (Just []) i l refl));
+    ended = λ seen i j s stop. ap (got seen) (same s);
+    item_stops = λ d i j s. let c = parts s in letter_no_separator (byte bytes i) (begins bytes letter refl (λ w h. ap (λ w. letter (get_or w 0 0)) h.1 ∙ word_first d.name h.0.0) c.1);
+    end_stops = λ i j s stop. ap (λ k. separator (byte bytes k)) (same s) ∙ stop.0;
+    goes_on = λ d i j s. opens d s;
+    goes_off = λ i j s stop. ap (opens_declaration bytes) (same s) ∙ stop.1;
+    full = λ seen i v j e. entry_refused (full_by tables.variables 32) seen i v j e;
+    opened = λ n h. (omega arith, omega arith);
+    shut = λ seen d i j h s.
+        let few : tables.variables < 32 = omega arith in
+        (i, no_room (full_by tables.variables 32) seen d i j s ∙ ap (λ r. refuse r i) (cond-true _ _ _ (lt-ltb tables.variables 32 few)), (λ m. omega arith));
+  }
+    where
+      same : {i j : ℕ} → Spelt (Just []) bytes i j → i ≡ j
+      same s = let e = just_next s in omega arith
+
+  -- declarations that fit the tables, of which no two have one name
+  abbrev pub declarations : Production (List Declared)
+  declarations = record { spells = Declarations; needs = λ t ds. (length ds ≤ t.variables) × IsDistinct same_word (names_of ds) }
+
+  pub declarations_agree : Agrees tables bytes (read_declarations tables.variables most []) (map told) declarations Over
+  unfolding IsDistinct
+  declarations_agree =
+      renamed tables bytes declarations (λ ds w h. h) (λ ds w h. h)
+      (λ t ds n. let r = fresh_there same_word same_word_laws (λ d. d.name) t.variables 0 [] ds tt n in let l = r.0 in (omega arith, r.1))
+      (λ t ds n. let l = n.0 in fresh_back same_word same_word_laws (λ d. d.name) t.variables 0 [] ds (omega arith) n.1)
+      (many_agrees tables bytes opens_declaration (read_entry (full_by tables.variables 32)) (λ seen bytes at. got seen at) told Declares (Just []) (λ t n. n < t.variables) NeedsNew Sep Over most repeats)

@@ -11,6 +11,7 @@ pub mod Statements
 pub mod Units
 pub mod Outcomes
 pub mod Places
+pub mod Grouping
 pub mod Agreement
 pub mod Repetition
 pub mod Fronts

@@ -23,7 +23,7 @@ use Rattle.jcode.proofs.Classes.{begins_with, white_begins, letter_is_not, lette
 use Rattle.jcode.proofs.Variables.{variable_agrees}
 use Rattle.jcode.proofs.Numbers.{byte_spelt, byte_stands}
 use Rattle.jcode.proofs.Rows.{variable_begins, variable_stops}
-use Rattle.jcode.proofs.Terms.{close_agrees, close_stops, regroup, ungroup, under}
+use Rattle.jcode.proofs.Terms.{close_agrees, close_stops}
 use Rattle.jcode.proofs.Distinct.{Fresh, AllFresh, fresh_there, fresh_back}
 
 module _ (tables : Sizes) (bytes : List ℕ) (sc : Scope) (once : IsDistinct same_word sc.names) where

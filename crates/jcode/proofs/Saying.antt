@@ -28,7 +28,7 @@ use Rattle.jcode.proofs.Marks.{end_agrees, same_refl}
 use Rattle.jcode.proofs.Classes.{begins, begins_with, white_begins, may_gap_stops, letter_no_separator, separator_no_name}
 use Rattle.jcode.proofs.Words.{word_first, word_agrees, keyword_agrees}
 use Rattle.jcode.proofs.Rows.{first_is}
-use Rattle.jcode.proofs.Terms.{regroup, ungroup, under}
+use Rattle.jcode.proofs.Grouping.{regroup3, ungroup3, under}
 use Rattle.jcode.proofs.Verbs.{spoken, verb_agrees}
 use Rattle.jcode.proofs.Statements.{rows_push}
 
@@ -82,10 +82,10 @@ module _ (tables : Sizes) (bytes : List ℕ) (sc : Scope) (once : IsDistinct sam
 
     -- ASSIGN's parts as they are read, in the order in which they are written
     assigned : {L P Q R S T U : Language} (w : List ℕ) → (L ⊙ P ⊙ (Q ⊙ R ⊙ S) ⊙ T ⊙ U) w → (L ⊙ P ⊙ Q ⊙ R ⊙ S ⊙ T ⊙ U) w
-    assigned = under (under (λ w h. under regroup w (regroup w h)))
+    assigned = under (under regroup3)
 
     unassigned : {L P Q R S T U : Language} (w : List ℕ) → (L ⊙ P ⊙ Q ⊙ R ⊙ S ⊙ T ⊙ U) w → (L ⊙ P ⊙ (Q ⊙ R ⊙ S) ⊙ T ⊙ U) w
-    unassigned = under (under (λ w h. ungroup w (under ungroup w h)))
+    unassigned = under (under ungroup3)
 
     verb_there : (v : Verb) (s : Sentence (List ℕ)) (w : List ℕ) → (Just (verb_word v) ⊙ (speech v).spells s) w → Says sc s w
     verb_there verb.Break s w = says _ _ _ s w (λ b w h. h)

@@ -13,25 +13,12 @@ use Rattle.jcode.specs.Pieces.{Answer, got, refused, Reader, refuse, and_then, �
 use Rattle.jcode.specs.Scopes.{Scope}
 use Rattle.jcode.specs.ReadTerms.{UnitRow, read_row, operands_after, read_open, read_begin, read_close, read_lead, read_operands, read_whole, read_term}
 use Rattle.jcode.proofs.Outcomes.{refused_got, got_what, got_next, then_got, then_step, unless_got}
+use Rattle.jcode.proofs.Grouping.{regroup, ungroup, under}
 use Rattle.jcode.proofs.Places.{byte, length_between, parts, spelt_as, spelt_none}
 use Rattle.jcode.proofs.Agreement.{Production, plain, mark, ahead, behind, both, Stops, Anywhere, Finds, found, short, Agrees, surely, after_agrees, before_agrees, pair_agrees, image_agrees, renamed, same_agrees}
 use Rattle.jcode.proofs.Marks.{gap_agrees, may_gap_agrees, mark_agrees}
 use Rattle.jcode.proofs.Classes.{head_byte, begins_with, white_begins, may_gap_stops, separator_no_head}
 use Rattle.jcode.proofs.Rows.{row_agrees, row_stops}
-
--- parts grouped otherwise
-pub regroup : {P Q R : Language} (w : List ℕ) → ((P ⊙ Q) ⊙ R) w → (P ⊙ Q ⊙ R) w
-regroup w h =
-    let x = h.2 in
-    (x.0, x.1 ++ h.1, x.2, (x.1, h.1, x.3, h.3, refl), h.4 ∙ ap (λ u. u ++ h.1) x.4 ∙ append_assoc x.0 x.1 h.1)
-
-pub ungroup : {P Q R : Language} (w : List ℕ) → (P ⊙ Q ⊙ R) w → ((P ⊙ Q) ⊙ R) w
-ungroup w h =
-    let x = h.3 in
-    (h.0 ++ x.0, x.1, (h.0, x.0, h.2, x.2, refl), x.3, h.4 ∙ ap (λ v. h.0 ++ v) x.4 ∙ sym (append_assoc h.0 x.0 x.1))
-
-pub under : {P Q R : Language} → ((w : List ℕ) → Q w → R w) → (w : List ℕ) → (P ⊙ Q) w → (P ⊙ R) w
-under f w h = (h.0, h.1, h.2, f h.1 h.3, h.4)
 
 module _ {A B C : Type 0} (h : A → B → C) where
   pair_step : (o : Answer A) (f : A → ℕ → Answer B) → and_then o (λ a i. and_then (f a i) (λ b j. got (h a b) j)) ≡ and_then {A = A × B} (and_then o (λ a i. and_then (f a i) (λ b j. got (a, b) j))) (λ p k. got (h p.0 p.1) k)

@@ -22,7 +22,7 @@ use Rattle.jcode.proofs.Marks.{gap_agrees, may_gap_agrees, end_agrees}
 use Rattle.jcode.proofs.Classes.{digit_least, large_no_separator, separator_no_name, separator_no_digit, begins, begins_with, white_begins, may_gap_stops}
 use Rattle.jcode.proofs.Numbers.{decimal_first, label_agrees}
 use Rattle.jcode.proofs.Texts.{text_agrees}
-use Rattle.jcode.proofs.Terms.{Few, terms, term_agrees, term_stops, regroup, ungroup, under}
+use Rattle.jcode.proofs.Terms.{Few, terms, term_agrees, term_stops}
 use Rattle.jcode.proofs.Lists.{listing_agrees, Target, target_agrees, target_stops}
 
 module _ (tables : Sizes) (bytes : List ℕ) where

@@ -101,13 +101,7 @@ InDomain (Subrange low high) w = (low ≤ℤ high) × (Just (codes "subrange") �
 
 -- a declaration, after its name
 abbrev pub HasDomain : Domain → Language
-HasDomain d =
-    (MayGap ⊙ Just (codes ":") ⊙ MayGap ⊙ Just (codes "("))
-    ⊙ (MayGap ⊙ Just (codes "variable") ⊙ MayGap ⊙ Just (codes "(") ⊙ MayGap)
-    ⊙ InDomain d
-    ⊙ Close
-    ⊙ Close
-    ⊙ End
+HasDomain d = MayGap ⊙ Just (codes ":") ⊙ MayGap ⊙ Bracketed (Just (codes "variable") ⊙ MayGap ⊙ Bracketed (InDomain d)) ⊙ End
 
 abbrev pub Declares : Declared → Language
 Declares d = Name d.name ⊙ HasDomain d.domain
