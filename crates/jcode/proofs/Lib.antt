@@ -28,3 +28,4 @@ pub mod Lists
 pub mod Verbs
 pub mod Saying
 pub mod Declaring
+pub mod Whole

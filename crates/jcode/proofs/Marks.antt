@@ -135,3 +135,14 @@ module _ (tables : Sizes) (bytes : List ℕ) where
         let to : i + length w ≡ j = omega arith in
         found tt (cond-true _ _ _ (ap (λ x. same_word x w) (ap (λ n. take n (drop i bytes)) len ∙ s.belongs) ∙ same_refl w) ∙ ap (got tt) to) refl;
   }
+
+  -- at an end there is no gap
+  pub end_no_gap : {i j : ℕ} → Spelt End bytes i j → Stops separator bytes j → past_gap bytes i ≡ i
+  end_no_gap {i = i} {j = j} s stop =
+      let w = between bytes i j in
+      let h = s.belongs in
+      let n : length w - 1 ≡ length h.0 = omega (arith, ap length h.2, length-append h.0 (10 ∷ [])) in
+      let ends : ends_in 32 w ≡ false = stands_byte 32 (omega arith) w (length w - 1) ∙ ap (λ b. eqb b 32) ((λ k. get_or (h.2 k) (n k) 0) ∙ get_or_at h.0 10 [] 0 (length h.0) refl) in
+      let run = front_is separator bytes i j (spelt_as (white_passes 10 refl) s) stop in
+      let none : white 32 bytes i ≡ None = ap (λ b. then_some b (run_at separator bytes i).length) (ap (ends_in 32) run ∙ ends) in
+      ap (λ o. i + unwrap_or o 0) none ∙ omega arith

@@ -1,8 +1,8 @@
 -- Statements up to END: reading and spelling agree.
-use Rattle.std.proofs.Common.{◌≡◌, ℕ, zero, suc, ◌+◌, ◌-◌, ◌<◌, ◌≤◌, min, Bool, true, false, cond, not, ltb, List, [], ◌∷◌, ◌++◌, map, length, get_or, Some, None, Option, sym, refl, ap, ◌∙◌, subst, arith}
+use Rattle.std.proofs.Common.{◌≡◌, ℕ, zero, suc, ◌+◌, ◌-◌, ◌<◌, ◌≤◌, min, Bool, true, false, cond, not, ltb, eqb, List, [], ◌∷◌, ◌++◌, map, length, get_or, Some, None, Option, sym, refl, ap, ◌∙◌, subst, inr, arith}
 use Rattle.std.specs.Prelude.{codes}
 use Rattle.std.specs.List.{IsDistinct}
-use Rattle.std.proofs.lemmas.Bool.{cond-true, lt-ltb, not_from_true, not_from_false}
+use Rattle.std.proofs.lemmas.Bool.{cond-true, lt-ltb, not_from_true, not_from_false, ne_eqb, both_ways}
 use Rattle.std.proofs.lemmas.List.{length-append}
 use Rattle.terms.specs.Words.{same_word}
 use Rattle.jcode.specs.declared.refusal.Refusal.{Refusal}
@@ -10,26 +10,29 @@ use Rattle.jcode.specs.declared.refusal.Refusal.TheVariants.{Table, Missing}
 use Rattle.jcode.specs.declared.span.Span.{Span}
 use Rattle.jcode.specs.declared.statement_reader.Verb.{Verb}
 use Rattle.jcode.specs.declared.statement_reader.Verb.TheVariants as verb
-use Rattle.jcode.specs.Bytes.{separator, letter, name_byte, slice, is_word}
-use Rattle.jcode.specs.Language.{Language, ◌⊙◌, Just, Gap, End, Spelt}
-use Rattle.jcode.specs.Spelling.{Sizes, limits, Says, Statements}
-use Rattle.jcode.specs.Pieces.{Answer, got, refuse, and_then, read_word}
+use Rattle.jcode.specs.Bytes.{separator, letter, digit, name_byte, slice, stands, is_word}
+use Rattle.jcode.specs.Language.{Language, ◌⊙◌, Just, Gap, MayGap, End, Label, Text, Spelt}
+use Rattle.jcode.specs.Spelling.{Sizes, limits, Term, Says, Statements}
+use Rattle.jcode.specs.Pieces.{Answer, got, refuse, and_then, past_gap, read_word}
 use Rattle.jcode.specs.Scopes.{Scope}
+use Rattle.jcode.specs.ReadTerms.{UnitRow}
 use Rattle.jcode.specs.Tables.{full_by}
 use Rattle.jcode.specs.Sentences.{Sentence, Hang, Break, Require, Proclaim, New, Assign, Split, When, Branch, Join, rows_of, verb_word, verbs, verb_of}
 use Rattle.jcode.specs.ReadStatements.{by_verb}
-use Rattle.jcode.specs.ReadUnits.{is_word as is_this, goes_on, by_found, read_sentence, rows_all, read_finish, read_statements}
+use Rattle.jcode.specs.ReadUnits.{is_word as is_this, goes_on, colon_after, opens_declaration, by_found, read_sentence, rows_all, read_finish, read_statements}
 use Rattle.jcode.specs.Units.{retold}
 use Rattle.jcode.proofs.Outcomes.{refused_got, got_what, got_next, then_got, then_step}
 use Rattle.jcode.proofs.Places.{byte, joins, parts, spelt_as}
 use Rattle.jcode.proofs.Agreement.{Production, mark, Stops, Finds, found, short, Agrees, surely, finds_then, after_agrees, renamed}
 use Rattle.jcode.proofs.Repetition.{AllNeed, Repeats, many_agrees}
-use Rattle.jcode.proofs.Marks.{end_agrees, same_refl}
+use Rattle.jcode.proofs.Fronts.{stands_byte}
+use Rattle.jcode.proofs.Marks.{end_agrees, same_refl, past_gap_is, end_no_gap}
 use Rattle.jcode.proofs.Classes.{begins, begins_with, white_begins, may_gap_stops, letter_no_separator, separator_no_name}
 use Rattle.jcode.proofs.Words.{word_first, word_agrees, keyword_agrees}
 use Rattle.jcode.proofs.Rows.{first_is}
 use Rattle.jcode.proofs.Grouping.{regroup3, ungroup3, under}
-use Rattle.jcode.proofs.Verbs.{spoken, verb_agrees}
+use Rattle.jcode.proofs.Terms.{term_begins}
+use Rattle.jcode.proofs.Verbs.{label_begins, label_stops, spoken, verb_agrees}
 use Rattle.jcode.proofs.Statements.{rows_push}
 
 -- the word of a statement
@@ -65,12 +68,49 @@ pub all_rows_told : {S T : Type 0} (f : S → T) (ss : List (Sentence S)) → ro
 all_rows_told f [] = refl
 all_rows_told f (s ∷ ss) = λ k. rows_told f s k ++ all_rows_told f ss k
 
+-- statements that fit the tables
+abbrev pub statements : Scope → Production (List (Sentence (List ℕ)))
+statements sc = record { spells = Statements sc; needs = λ t ss. (length ss ≤ t.statements) × (length (rows_all ss) ≤ t.rows) }
+
 module _ (tables : Sizes) (bytes : List ℕ) (sc : Scope) (once : IsDistinct same_word sc.names) where
   abbrev Sep : ℕ → Type 0
   Sep = Stops separator bytes
 
   abbrev told : Sentence Span → Sentence (List ℕ)
   told = retold (slice bytes)
+
+  -- no colon stands at a place, perhaps after a gap
+  abbrev Colonless : ℕ → Type 0
+  Colonless i = stands 58 bytes (past_gap bytes i) ≡ false
+
+  colonless : {i : ℕ} (k : ℕ) → Spelt MayGap bytes i k → Sep k → eqb (byte bytes k) 58 ≡ false → Colonless i
+  colonless {i = i} k s sep other = ap (stands 58 bytes) (past_gap_is tables bytes i k s sep) ∙ stands_byte 58 (omega arith) bytes k ∙ other
+
+  gap_bracket : {Q : Language} {i j : ℕ} → ((k : ℕ) → Spelt Q bytes k j → byte bytes k ≡ 40) → Spelt (Gap ⊙ Q) bytes i j → Colonless i
+  gap_bracket first s =
+      let c = parts s in
+      let e = first c.0 c.2 in
+      colonless c.0 (spelt_as (λ w h. inr h) c.1) (ap separator e) (ap (λ b. eqb b 58) e)
+
+  gap_label : (l : ℕ) {i j : ℕ} → Spelt (Gap ⊙ Label l ⊙ End) bytes i j → Colonless i
+  gap_label l s =
+      let c = parts s in
+      let label = (parts c.2).1 in
+      let d = label_begins tables bytes l label in
+      colonless c.0 (spelt_as (λ w h. inr h) c.1) (label_stops tables bytes l label)
+      (ne_eqb (byte bytes c.0) 58 (λ e. both_ways (digit 58) refl (ap digit (sym e) ∙ d)))
+
+  expression_begins : (e : List UnitRow) {Q : Language} {j : ℕ} (k : ℕ) → Spelt (Term sc 32 e ⊙ Q) bytes k j → byte bytes k ≡ 40
+  expression_begins e k s = term_begins tables bytes sc 32 e (parts s).1
+
+  text_begins : (t : List ℕ) {Q : Language} {j : ℕ} (k : ℕ) → Spelt (Text t ⊙ Q) bytes k j → byte bytes k ≡ 40
+  text_begins t k s = begins_with bytes 40 (47 ∷ []) (omega arith) (parts (parts s).1).1
+
+  end_colonless : {i j : ℕ} → Spelt End bytes i j → Sep j → Colonless i
+  end_colonless {i = i} s sep =
+      ap (stands 58 bytes) (end_no_gap tables bytes s sep)
+      ∙ stands_byte 58 (omega arith) bytes i
+      ∙ ne_eqb (byte bytes i) 58 (λ e. both_ways (separator 58) refl (ap separator (sym e) ∙ white_begins bytes 10 refl s))
 
   module _ (used : ℕ) where
     abbrev speech : Verb → Production (Sentence (List ℕ))
@@ -111,8 +151,8 @@ module _ (tables : Sizes) (bytes : List ℕ) (sc : Scope) (once : IsDistinct sam
     verb_back (Branch t l) w h = (h.0, h.1, h.2, ((t, l), refl, h.3), h.4)
     verb_back (Join l) w h = (h.0, h.1, h.2, (l, refl, h.3), h.4)
 
-    -- what follows a word ends it
-    follows : {B : Type 0} (f : B → Sentence (List ℕ)) (L : B → Language) (s : Sentence (List ℕ)) {i j : ℕ} → ((b : B) → Spelt (L b) bytes i j → Stops name_byte bytes i) → Spelt (λ w. (b : B) × (f b ≡ s) × L b w) bytes i j → Stops name_byte bytes i
+    -- what holds of each thing that is spelt so
+    follows : {B C : Type 0} (f : B → Sentence (List ℕ)) (L : B → Language) (s : Sentence (List ℕ)) {i j : ℕ} → ((b : B) → Spelt (L b) bytes i j → C) → Spelt (λ w. (b : B) × (f b ≡ s) × L b w) bytes i j → C
     follows f L s g h = g h.belongs.0 (record { forward = h.forward; within = h.within; belongs = h.belongs.2 })
 
     gap_first : {Q : Language} {i j : ℕ} → Spelt (Gap ⊙ Q) bytes i j → Stops name_byte bytes i
@@ -131,6 +171,21 @@ module _ (tables : Sizes) (bytes : List ℕ) (sc : Scope) (once : IsDistinct sam
     speech_stops verb.When s = follows _ _ s (λ _. gap_first)
     speech_stops verb.Branch s = follows _ _ s (λ _. gap_first)
     speech_stops verb.Join s = follows _ _ s (λ _. gap_first)
+
+    speech_colonless : (v : Verb) (s : Sentence (List ℕ)) {i j : ℕ} → Sep j → Spelt ((speech v).spells s) bytes i j → Colonless i
+    speech_colonless verb.Break s sep = follows _ _ s (λ t h.
+        let c = parts h in
+        let e = text_begins t c.0 c.2 in
+        colonless c.0 c.1 (ap separator e) (ap (λ b. eqb b 58) e))
+    speech_colonless verb.Hang s sep = follows _ _ s (λ _ h. end_colonless h sep)
+    speech_colonless verb.Require s sep = follows _ _ s (λ p. gap_bracket (expression_begins p.0))
+    speech_colonless verb.Proclaim s sep = follows _ _ s (λ e. gap_bracket (expression_begins e))
+    speech_colonless verb.New s sep = follows _ _ s (λ p. gap_bracket (λ k h. begins_with bytes 40 [] (omega arith) (parts (spelt_as (λ w h. h.2) (parts h).1)).1))
+    speech_colonless verb.Assign s sep = follows _ _ s (λ p. gap_bracket (λ k h. begins_with bytes 40 [] (omega arith) (parts (parts (parts h).1).1).1))
+    speech_colonless verb.Split s sep = follows _ _ s (λ l h. gap_label l h)
+    speech_colonless verb.When s sep = follows _ _ s (λ p. gap_bracket (expression_begins p.0))
+    speech_colonless verb.Branch s sep = follows _ _ s (λ p. gap_bracket (text_begins p.0))
+    speech_colonless verb.Join s sep = follows _ _ s (λ l h. gap_label l h)
 
     -- the word of a statement, as it is read
     word_read : (s : Sentence (List ℕ)) {i j : ℕ} → Spelt (Says sc s) bytes i j → (k : ℕ) × Spelt ((speech (kind s)).spells s) bytes k j × (a : Span) × (read_word bytes i ≡ got a k) × (slice bytes a ≡ verb_word (kind s))
@@ -196,11 +251,11 @@ module _ (tables : Sizes) (bytes : List ℕ) (sc : Scope) (once : IsDistinct sam
   unfolding read_finish
   finish_agrees = after_agrees tables bytes (keyword_agrees tables bytes (codes "END") refl) (end_agrees tables bytes) (λ b i j s stop. separator_no_name (byte bytes i) (white_begins bytes 10 refl s))
 
-  end_read : {i j : ℕ} → Spelt (Just (codes "END") ⊙ End) bytes i j → (k : ℕ) × (a : Span) × (read_word bytes i ≡ got a k) × (slice bytes a ≡ codes "END")
+  end_read : {i j : ℕ} → Spelt (Just (codes "END") ⊙ End) bytes i j → (k : ℕ) × Spelt End bytes k j × (a : Span) × (read_word bytes i ≡ got a k) × (slice bytes a ≡ codes "END")
   end_read {i = i} s =
       let c = parts s in
       let r = surely tables bytes ((word_agrees tables bytes).complete i (codes "END") c.0 (spelt_as (λ w e. (refl, e)) c.1) tt (separator_no_name (byte bytes c.0) (white_begins bytes 10 refl c.2))) in
-      (c.0, r.0, r.1, r.2)
+      (c.0, c.2, r.0, r.1, r.2)
 
   abbrev NeedsRows : Sizes → List (Sentence (List ℕ)) → Sentence (List ℕ) → Type 0
   NeedsRows t seen s = length (rows_of s) ≤ t.rows - length (rows_all seen)
@@ -225,7 +280,7 @@ module _ (tables : Sizes) (bytes : List ℕ) (sc : Scope) (once : IsDistinct sam
         not_from_false _ (ap (is_this bytes (codes "END")) c.3 ∙ ap (λ w. same_word w (codes "END")) c.4 ∙ not_end (kind b));
     goes_off = λ i j s stop.
         let c = end_read s in
-        not_from_true _ (ap (is_this bytes (codes "END")) c.2 ∙ ap (λ w. same_word w (codes "END")) c.3);
+        not_from_true _ (ap (is_this bytes (codes "END")) c.3 ∙ ap (λ w. same_word w (codes "END")) c.4);
     full = λ seen i a j e. sentence_refused (length (rows_all seen)) (full_by tables.statements 200) i a j e;
     opened = λ n h. (omega arith, omega arith);
     shut = λ seen b i j h s.
@@ -259,18 +314,20 @@ module _ (tables : Sizes) (bytes : List ℕ) (sc : Scope) (once : IsDistinct sam
       let f = rows_more seen s in
       (omega arith, omega arith, counted_back t (n + 1) (seen ++ s ∷ []) ss (omega arith) (omega arith))
 
-  -- statements that fit the tables
-  abbrev pub statements : Production (List (Sentence (List ℕ)))
-  statements = record { spells = Statements sc; needs = λ t ss. (length ss ≤ t.statements) × (length (rows_all ss) ≤ t.rows) }
-
-  pub statements_agrees : Agrees tables bytes (read_statements sc tables.rows tables.statements most []) (map told) statements Sep
+  pub statements_agrees : Agrees tables bytes (read_statements sc tables.rows tables.statements most []) (map told) (statements sc) Sep
   statements_agrees =
-      renamed tables bytes statements (λ ss w h. h) (λ ss w h. h)
+      renamed tables bytes (statements sc) (λ ss w h. h) (λ ss w h. h)
       (λ t ss n. let c = counted_there t 0 [] ss n in let a = c.0 in let b = c.1 in (omega arith, omega arith))
       (λ t ss n. let a = n.0 in let b = n.1 in counted_back t 0 [] ss (omega arith) (omega arith))
       (many_agrees tables bytes goes_on (λ full seen. read_sentence sc tables.rows (full_by tables.statements 200) full (length (rows_all seen))) (λ seen bytes at. and_then (read_finish bytes at) (λ _ i. got seen i)) told (Says sc) (Just (codes "END") ⊙ End) (λ t n. n < t.statements) NeedsRows Sep Sep most repeats)
 
-  -- a word stands where they begin
-  pub statements_begin : (ss : List (Sentence (List ℕ))) {i j : ℕ} → Spelt (Statements sc ss) bytes i j → Sep i
-  statements_begin [] s = ap separator (begins_with bytes 69 (codes "ND") (omega arith) (parts (spelt_as (λ w h. h) s)).1)
-  statements_begin (s ∷ ss) h = let c = parts h in repeats.item_stops s _ c.0 c.1
+  -- where statements begin no declaration stands
+  pub statements_begin : (ss : List (Sentence (List ℕ))) {i j : ℕ} → Spelt (Statements sc ss) bytes i j → Sep j → Sep i × (opens_declaration bytes i ≡ false)
+  statements_begin [] {i = i} s sep =
+      let whole : Spelt (Just (codes "END") ⊙ End) bytes i _ = spelt_as (λ w h. h) s in
+      let e = end_read whole in
+      (repeats.end_stops i _ whole sep, ap (colon_after bytes) e.3 ∙ end_colonless e.1 sep)
+  statements_begin (s ∷ ss) {i = i} h sep =
+      let c = parts h in
+      let e = word_read 0 s c.1 in
+      (repeats.item_stops s i c.0 c.1, ap (colon_after bytes) e.3 ∙ speech_colonless 0 (kind s) s (statements_begin ss c.2 sep).0 e.1)

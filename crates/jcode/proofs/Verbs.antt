@@ -32,10 +32,11 @@ module _ (tables : Sizes) (bytes : List ℕ) where
   text_stops : (t : List ℕ) {i j : ℕ} → Spelt (Text t) bytes i j → Sep i
   text_stops t s = ap separator (begins_with bytes 40 (47 ∷ []) (omega arith) (parts s).1)
 
-  label_stops : (l : ℕ) {i j : ℕ} → Spelt (Label l) bytes i j → Sep i
-  label_stops l {i = i} s =
-      let small = s.belongs.1 in
-      large_no_separator (byte bytes i) (omega (arith, digit_least (byte bytes i) (begins bytes digit refl (λ w h. ap (λ w. digit (get_or w 0 0)) h.2 ∙ decimal_first l (omega arith)) s)))
+  pub label_begins : (l : ℕ) {i j : ℕ} → Spelt (Label l) bytes i j → digit (byte bytes i) ≡ true
+  label_begins l s = let small = s.belongs.1 in begins bytes digit refl (λ w h. ap (λ w. digit (get_or w 0 0)) h.2 ∙ decimal_first l (omega arith)) s
+
+  pub label_stops : (l : ℕ) {i j : ℕ} → Spelt (Label l) bytes i j → Sep i
+  label_stops l {i = i} s = large_no_separator (byte bytes i) (omega (arith, digit_least (byte bytes i) (label_begins l s)))
 
   text_end_agrees : Agrees tables bytes read_text_end (slice bytes) (plain (λ t. MayGap ⊙ Text t ⊙ End)) Sep
   unfolding read_text_end

@@ -11,3 +11,4 @@ pub mod Lines
 pub mod Units
 pub mod Language
 pub mod Spelling
+pub mod Notation
