@@ -109,7 +109,7 @@ module _ (tables : Sizes) (bytes : List ℕ) where
         (λ a _ is. finds_then view (P.needs tables b) b j (λ _ j. got a j) (two.complete c.0 tt j c.2 tt stop) (λ _. tt) (λ _ _ _. found a refl is));
   }
 
-  pub pair_agrees : {A B C D : Type 0} {r₁ : Reader A} {view : A → B} {P : Production B} {p : ℕ → Type 0} {r₂ : A → Reader C} {view′ : C → D} {q : ℕ → Type 0} (Q : B → Production D) → Agrees r₁ view P p → ((a : A) → P.needs limits (view a) → Agrees (r₂ a) view′ (Q (view a)) q) → ((b : B) → Apart p (Q b) q) → Agrees (r₁ ⊗ r₂) (λ c. (view c.0, view′ c.1)) (both P Q) q
+  pub pair_agrees : {A B C D : Type 0} {r₁ : Reader A} {view : A → B} {P : Production B} {p : ℕ → Type 0} {r₂ : A → Reader C} {view′ : C → D} {q : ℕ → Type 0} (Q : B → Production D) → Agrees r₁ view P p → ((a : A) → P.needs limits (view a) → Agrees (r₂ a) view′ (Q (view a)) q) → ((b : B) → P.needs limits b → Apart p (Q b) q) → Agrees (r₁ ⊗ r₂) (λ c. (view c.0, view′ c.1)) (both P Q) q
   pair_agrees {r₁ = r₁} {view = view} {P = P} {r₂ = r₂} {view′ = view′} {q = q} Q one two apart = record {
     sound = λ i c j l e.
         let t = then_got (r₁ bytes i) (λ a i. and_then (r₂ a bytes i) (λ b j. got (a, b) j)) e in
@@ -119,7 +119,7 @@ module _ (tables : Sizes) (bytes : List ℕ) where
         stands_as (λ c. (view c.0, view′ c.1)) u.3 (record { spelt = joins s₁.spelt s₂.spelt; keeps = (s₁.keeps, s₂.keeps); fits = (s₁.fits, s₂.fits) });
     complete = λ i b j s n stop.
         let c = parts s in
-        finds_then (λ c. (view c.0, view′ c.1)) ((both P Q).needs tables b) b j (λ a i. and_then (r₂ a bytes i) (λ b j. got (a, b) j)) (one.complete i b.0 c.0 c.1 n.0 (apart b.0 b.1 c.0 j c.2 stop)) (λ m. m.0)
+        finds_then (λ c. (view c.0, view′ c.1)) ((both P Q).needs tables b) b j (λ a i. and_then (r₂ a bytes i) (λ b j. got (a, b) j)) (one.complete i b.0 c.0 c.1 n.0 (apart b.0 n.0 b.1 c.0 j c.2 stop)) (λ m. m.0)
         (λ a _ is.
           let h : Agrees (r₂ a) view′ (Q b.0) q = subst (λ x. Agrees (r₂ a) view′ (Q x) q) is (two a (subst (P.needs limits) (sym is) n.0)) in
           finds_then (λ c. (view c.0, view′ c.1)) ((both P Q).needs tables b) b j (λ b j. got (a, b) j) (h.complete c.0 b.1 j c.2 n.1 stop) (λ m. m.1) (λ d _ eq. found (a, d) refl (λ k. (is k, eq k))));

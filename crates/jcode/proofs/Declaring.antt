@@ -24,7 +24,7 @@ use Rattle.jcode.specs.Units.{Declared, declared_in}
 use Rattle.jcode.proofs.Outcomes.{refused_got, got_what, got_next, then_got, then_step, when_got, unless_got}
 use Rattle.jcode.proofs.Places.{byte, joins, parts, spelt_as, spelt_none, just_next}
 use Rattle.jcode.proofs.Agreement.{Production, plain, mark, kept, Stops, Anywhere, Stands, Finds, found, short, Agrees, surely, finds_then, after_agrees, before_agrees, pair_agrees, image_agrees, kept_agrees, renamed, same_agrees}
-use Rattle.jcode.proofs.Repetition.{AllNeed, Repeats, many_agrees}
+use Rattle.jcode.proofs.Repetition.{AllNeed, Repeats, many_agrees, many_stops}
 use Rattle.jcode.proofs.Fronts.{stands_byte}
 use Rattle.jcode.proofs.Marks.{gap_agrees, may_gap_agrees, mark_agrees, end_agrees, past_gap_is}
 use Rattle.jcode.proofs.Classes.{begins, begins_with, white_begins, may_gap_stops, letter_no_separator, separator_no_name, separator_no_digit}
@@ -233,7 +233,7 @@ module _ (tables : Sizes) (bytes : List ℕ) where
       renamed tables bytes (record { spells = Declares; needs = λ t. NeedsNew t (map told seen) })
       (λ d w h. subst (λ d. Declares d w) h.1 h.2) (λ d w h. ((d.name, d.domain), refl, h)) (λ t d n. n) (λ t d n. n)
       (image_agrees tables bytes (λ p. record { name = p.0; domain = p.1 }) told made (λ t. NeedsNew t (map told seen))
-        (pair_agrees tables bytes (λ _. plain HasDomain) (fresh_agrees seen) (λ s _. declared_agrees) (λ n d i j s stop. no_name_follows d s))
+        (pair_agrees tables bytes (λ _. plain HasDomain) (fresh_agrees seen) (λ s _. declared_agrees) (λ n _ d i j s stop. no_name_follows d s))
         (λ p. refl) (λ t p n. n.0) (λ t p n. (n, tt)))
 
   entry_agrees : (r : Refusal) (seen : List Variable) → Agrees tables bytes (read_entry r false seen) told (record { spells = Declares; needs = λ t. NeedsNew t (map told seen) }) Sep
@@ -300,3 +300,6 @@ module _ (tables : Sizes) (bytes : List ℕ) where
       (λ t ds n. let r = fresh_there same_word same_word_laws (λ d. d.name) t.variables 0 [] ds tt n in let l = r.0 in (omega arith, r.1))
       (λ t ds n. let l = n.0 in fresh_back same_word same_word_laws (λ d. d.name) t.variables 0 [] ds (omega arith) n.1)
       (many_agrees tables bytes opens_declaration (read_entry (full_by tables.variables 32)) (λ seen bytes at. got seen at) told Declares (Just []) (λ t n. n < t.variables) NeedsNew Sep Over most repeats)
+
+  pub declarations_begin : (ds : List Declared) {i j : ℕ} → Spelt (Declarations ds) bytes i j → Over j → Sep i
+  declarations_begin ds s stop = many_stops tables bytes opens_declaration (read_entry (full_by tables.variables 32)) (λ seen bytes at. got seen at) told Declares (Just []) (λ t n. n < t.variables) NeedsNew Sep Over most repeats ds _ _ s stop

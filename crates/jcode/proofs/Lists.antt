@@ -26,6 +26,10 @@ use Rattle.jcode.proofs.Rows.{variable_begins, variable_stops}
 use Rattle.jcode.proofs.Terms.{close_agrees, close_stops}
 use Rattle.jcode.proofs.Distinct.{Fresh, AllFresh, fresh_there, fresh_back}
 
+-- ASSIGN's variable, in brackets twice
+abbrev pub Target : Scope → ℕ → Language
+Target sc v = Bracketed (Variable sc v) ⊙ MayGap ⊙ Bracketed (Variable sc v)
+
 module _ (tables : Sizes) (bytes : List ℕ) (sc : Scope) (once : IsDistinct same_word sc.names) where
   -- v is none of these, as reading asks it
   member_is : (v : ℕ) (seen : List ℕ) → member v seen ≡ list_any (nat_eq v) seen
@@ -182,16 +186,12 @@ module _ (tables : Sizes) (bytes : List ℕ) (sc : Scope) (once : IsDistinct sam
         (λ b i j s stop. tt))
       (λ b i j s stop. ap separator (begins_with bytes 40 [] (omega arith) (parts s).1))
 
-  -- ASSIGN's variable, in brackets twice
-  abbrev pub Target : ℕ → Language
-  Target v = Bracketed (Variable sc v) ⊙ MayGap ⊙ Bracketed (Variable sc v)
-
-  pub target_agrees : Agrees tables bytes (read_target sc) (λ v. v) (plain Target) Anywhere
+  pub target_agrees : Agrees tables bytes (read_target sc) (λ v. v) (plain (Target sc)) Anywhere
   target_agrees =
-      renamed tables bytes (plain Target) (λ v w h. subst (λ v. Target v w) h.1 h.2) (λ v w h. ((v, tt), refl, h)) (λ t v n. n) (λ t v n. n)
+      renamed tables bytes (plain (Target sc)) (λ v w h. subst (λ v. Target sc v w) h.1 h.2) (λ v w h. ((v, tt), refl, h)) (λ t v n. n) (λ t v n. n)
       (image_agrees tables bytes (λ p. p.0) (λ v. v) (λ p. p.0) (λ t v. Unit {0})
-        (pair_agrees tables bytes (λ v. mark (MayGap ⊙ Bracketed (Variable sc v))) single_agrees (λ v _. repeated_agrees v) (λ v b i j s stop. tt))
+        (pair_agrees tables bytes (λ v. mark (MayGap ⊙ Bracketed (Variable sc v))) single_agrees (λ v _. repeated_agrees v) (λ v _ b i j s stop. tt))
         (λ p. refl) (λ t p n. tt) (λ t p n. (tt, tt)))
 
-  pub target_stops : (v : ℕ) {i j : ℕ} → Spelt (Target v) bytes i j → Stops separator bytes i
+  pub target_stops : (v : ℕ) {i j : ℕ} → Spelt (Target sc v) bytes i j → Stops separator bytes i
   target_stops v s = ap separator (begins_with bytes 40 [] (omega arith) (parts (parts s).1).1)

@@ -85,9 +85,9 @@ module _ (tables : Sizes) (bytes : List ℕ) {A B : Type 0} (more : List ℕ →
     none_more (suc left) n seen i j s stop = found seen (cond-false _ _ _ (r.goes_off i j s stop) ∙ r.ended seen i j s stop) (sym (append-nil (map view seen)))
 
     -- the item before things that stand ends where they begin
-    stops : (bs : List B) (i j : ℕ) → Spelt (Many item end bs) bytes i j → q j → p i
-    stops [] i j s stop = r.end_stops i j s stop
-    stops (b ∷ bs) i j s stop = let c = parts s in r.item_stops b i c.0 c.1
+    pub many_stops : (bs : List B) (i j : ℕ) → Spelt (Many item end bs) bytes i j → q j → p i
+    many_stops [] i j s stop = r.end_stops i j s stop
+    many_stops (b ∷ bs) i j s stop = let c = parts s in r.item_stops b i c.0 c.1
 
     pub many_complete : (left n : ℕ) (seen : List A) (i : ℕ) (bs : List B) (j : ℕ) → left + n ≡ most → Spelt (Many item end bs) bytes i j → All limits n (map view seen) bs → q j → FindsMany n seen (repeated more step done left seen bytes i) bs j
     many_complete left n seen i [] j count s need stop = none_more left n seen i j s stop
@@ -100,7 +100,7 @@ module _ (tables : Sizes) (bytes : List ℕ) {A B : Type 0} (more : List ℕ →
         let c = parts s in
         let V = map view seen in
         let after_one = finds_then tables bytes (map view) (All tables n V (b ∷ bs)) (V ++ b ∷ bs) j (λ a j. repeated more step done left (seen ++ a ∷ []) bytes j)
-            ((r.items seen).complete i b c.0 c.1 need.1 (stops bs c.0 j c.2 stop)) (λ m. m.1)
+            ((r.items seen).complete i b c.0 c.1 need.1 (many_stops bs c.0 j c.2 stop)) (λ m. m.1)
             (λ a _ is.
               let e : map view (seen ++ a ∷ []) ≡ V ++ b ∷ [] = map_push view seen a ∙ ap (λ x. V ++ x ∷ []) is in
               let h = many_complete left (n + 1) (seen ++ a ∷ []) c.0 bs j (omega arith) c.2 (subst (λ s. All limits (n + 1) s bs) (sym e) need.2) stop in

@@ -72,7 +72,7 @@ all_rows_told f (s ∷ ss) = λ k. rows_told f s k ++ all_rows_told f ss k
 abbrev pub statements : Scope → Production (List (Sentence (List ℕ)))
 statements sc = record { spells = Statements sc; needs = λ t ss. (length ss ≤ t.statements) × (length (rows_all ss) ≤ t.rows) }
 
-module _ (tables : Sizes) (bytes : List ℕ) (sc : Scope) (once : IsDistinct same_word sc.names) where
+module _ (tables : Sizes) (bytes : List ℕ) (sc : Scope) where
   abbrev Sep : ℕ → Type 0
   Sep = Stops separator bytes
 
@@ -114,7 +114,7 @@ module _ (tables : Sizes) (bytes : List ℕ) (sc : Scope) (once : IsDistinct sam
 
   module _ (used : ℕ) where
     abbrev speech : Verb → Production (Sentence (List ℕ))
-    speech = spoken tables bytes sc once used
+    speech = spoken sc used
 
     -- a word and what follows it, as the thing that it says
     says : {B : Type 0} (word : List ℕ) (f : B → Sentence (List ℕ)) (L : B → Language) (s : Sentence (List ℕ)) (w : List ℕ) → ((b : B) (w : List ℕ) → (Just word ⊙ L b) w → Says sc (f b) w) → (Just word ⊙ (λ w. (b : B) × (f b ≡ s) × L b w)) w → Says sc s w
@@ -202,9 +202,9 @@ module _ (tables : Sizes) (bytes : List ℕ) (sc : Scope) (once : IsDistinct sam
       by_found_got i j None e = absurd (refused_got e)
       by_found_got i j (Some v) e = (v, refl, e)
 
-      sentence_agrees : Agrees tables bytes (read_sentence sc tables.rows r false used) told (record { spells = Says sc; needs = λ t s. length (rows_of s) ≤ t.rows - used }) Sep
+      sentence_agrees : IsDistinct same_word sc.names → Agrees tables bytes (read_sentence sc tables.rows r false used) told (record { spells = Says sc; needs = λ t s. length (rows_of s) ≤ t.rows - used }) Sep
       unfolding read_sentence
-      sentence_agrees = record {
+      sentence_agrees once = record {
         sound = λ i s j l e.
             let t = then_got (read_word bytes i) (by_word false i) e in
             let p = ((word_agrees tables bytes).sound i t.0 t.1 l t.2).spelt in
@@ -257,24 +257,31 @@ module _ (tables : Sizes) (bytes : List ℕ) (sc : Scope) (once : IsDistinct sam
       let r = surely tables bytes ((word_agrees tables bytes).complete i (codes "END") c.0 (spelt_as (λ w e. (refl, e)) c.1) tt (separator_no_name (byte bytes c.0) (white_begins bytes 10 refl c.2))) in
       (c.0, c.2, r.0, r.1, r.2)
 
+  -- a word stands where a statement or the end begins
+  verb_begins : (s : Sentence (List ℕ)) {i j : ℕ} → Spelt (Says sc s) bytes i j → Sep i
+  verb_begins s {i = i} h =
+      letter_no_separator (byte bytes i) (begins bytes letter refl (λ w h. ap (λ w. letter (get_or w 0 0)) h ∙ word_first (verb_word (kind s)) (verb_is_word (kind s))) (parts (spelt_as (verb_back 0 s) h)).1)
+
+  end_begins : {i j : ℕ} → Spelt (Just (codes "END") ⊙ End) bytes i j → Sep i
+  end_begins s = ap separator (begins_with bytes 69 (codes "ND") (omega arith) (parts s).1)
+
   abbrev NeedsRows : Sizes → List (Sentence (List ℕ)) → Sentence (List ℕ) → Type 0
   NeedsRows t seen s = length (rows_of s) ≤ t.rows - length (rows_all seen)
 
   abbrev most : ℕ
   most = min tables.statements 200
 
-  repeats : Repeats tables bytes goes_on (λ full seen. read_sentence sc tables.rows (full_by tables.statements 200) full (length (rows_all seen))) (λ seen bytes at. and_then (read_finish bytes at) (λ _ i. got seen i)) told (Says sc) (Just (codes "END") ⊙ End) (λ t n. n < t.statements) NeedsRows Sep Sep most
-  repeats = record {
+  repeats : IsDistinct same_word sc.names → Repeats tables bytes goes_on (λ full seen. read_sentence sc tables.rows (full_by tables.statements 200) full (length (rows_all seen))) (λ seen bytes at. and_then (read_finish bytes at) (λ _ i. got seen i)) told (Says sc) (Just (codes "END") ⊙ End) (λ t n. n < t.statements) NeedsRows Sep Sep most
+  repeats once = record {
     items = λ seen.
         subst (λ n. Agrees tables bytes (read_sentence sc tables.rows (full_by tables.statements 200) false (length (rows_all seen))) told (record { spells = Says sc; needs = λ t s. length (rows_of s) ≤ t.rows - n }) Sep) (ap length (sym (all_rows_told (slice bytes) seen)))
-        (sentence_agrees (length (rows_all seen)) (full_by tables.statements 200));
+        (sentence_agrees (length (rows_all seen)) (full_by tables.statements 200) once);
     ends = λ seen i all j l e.
         let t = then_got (read_finish bytes i) (λ _ i. got seen i) e in
         (sym (got_what t.3), subst (Spelt (Just (codes "END") ⊙ End) bytes i) (got_next t.3) (finish_agrees.sound i t.0 t.1 l t.2).spelt);
     ended = λ seen i j s stop. ap (λ o. and_then o (λ _ i. got seen i)) (surely tables bytes (finish_agrees.complete i tt j s tt stop)).1;
-    item_stops = λ b i j s.
-        letter_no_separator (byte bytes i) (begins bytes letter refl (λ w h. ap (λ w. letter (get_or w 0 0)) h ∙ word_first (verb_word (kind b)) (verb_is_word (kind b))) (parts (spelt_as (verb_back 0 b) s)).1);
-    end_stops = λ i j s stop. ap separator (begins_with bytes 69 (codes "ND") (omega arith) (parts s).1);
+    item_stops = λ b i j s. verb_begins b s;
+    end_stops = λ i j s stop. end_begins s;
     goes_on = λ b i j s.
         let c = word_read 0 b s in
         not_from_false _ (ap (is_this bytes (codes "END")) c.3 ∙ ap (λ w. same_word w (codes "END")) c.4 ∙ not_end (kind b));
@@ -314,20 +321,20 @@ module _ (tables : Sizes) (bytes : List ℕ) (sc : Scope) (once : IsDistinct sam
       let f = rows_more seen s in
       (omega arith, omega arith, counted_back t (n + 1) (seen ++ s ∷ []) ss (omega arith) (omega arith))
 
-  pub statements_agrees : Agrees tables bytes (read_statements sc tables.rows tables.statements most []) (map told) (statements sc) Sep
-  statements_agrees =
+  pub statements_agrees : IsDistinct same_word sc.names → Agrees tables bytes (read_statements sc tables.rows tables.statements most []) (map told) (statements sc) Sep
+  statements_agrees once =
       renamed tables bytes (statements sc) (λ ss w h. h) (λ ss w h. h)
       (λ t ss n. let c = counted_there t 0 [] ss n in let a = c.0 in let b = c.1 in (omega arith, omega arith))
       (λ t ss n. let a = n.0 in let b = n.1 in counted_back t 0 [] ss (omega arith) (omega arith))
-      (many_agrees tables bytes goes_on (λ full seen. read_sentence sc tables.rows (full_by tables.statements 200) full (length (rows_all seen))) (λ seen bytes at. and_then (read_finish bytes at) (λ _ i. got seen i)) told (Says sc) (Just (codes "END") ⊙ End) (λ t n. n < t.statements) NeedsRows Sep Sep most repeats)
+      (many_agrees tables bytes goes_on (λ full seen. read_sentence sc tables.rows (full_by tables.statements 200) full (length (rows_all seen))) (λ seen bytes at. and_then (read_finish bytes at) (λ _ i. got seen i)) told (Says sc) (Just (codes "END") ⊙ End) (λ t n. n < t.statements) NeedsRows Sep Sep most (repeats once))
 
   -- where statements begin no declaration stands
   pub statements_begin : (ss : List (Sentence (List ℕ))) {i j : ℕ} → Spelt (Statements sc ss) bytes i j → Sep j → Sep i × (opens_declaration bytes i ≡ false)
   statements_begin [] {i = i} s sep =
       let whole : Spelt (Just (codes "END") ⊙ End) bytes i _ = spelt_as (λ w h. h) s in
       let e = end_read whole in
-      (repeats.end_stops i _ whole sep, ap (colon_after bytes) e.3 ∙ end_colonless e.1 sep)
+      (end_begins whole, ap (colon_after bytes) e.3 ∙ end_colonless e.1 sep)
   statements_begin (s ∷ ss) {i = i} h sep =
       let c = parts h in
       let e = word_read 0 s c.1 in
-      (repeats.item_stops s i c.0 c.1, ap (colon_after bytes) e.3 ∙ speech_colonless 0 (kind s) s (statements_begin ss c.2 sep).0 e.1)
+      (verb_begins s c.1, ap (colon_after bytes) e.3 ∙ speech_colonless 0 (kind s) s (statements_begin ss c.2 sep).0 e.1)

@@ -45,6 +45,13 @@ whole_step (got r i) f c = by (f r i)
     by (got rs j) = close rs (c j)
     by (refused y) = refl
 
+-- after so many rows there is room for these
+abbrev pub Few : ℕ → Sizes → List UnitRow → Type 0
+Few used t rs = length rs ≤ t.rows - used
+
+abbrev pub terms : Scope → ℕ → ℕ → Production (List UnitRow)
+terms sc k used = record { spells = Term sc k; needs = Few used }
+
 module _ (tables : Sizes) (bytes : List ℕ) where
   pub close_agrees : Agrees tables bytes read_close (λ u. u) (mark Close) Anywhere
   unfolding read_close
@@ -57,14 +64,7 @@ module _ (tables : Sizes) (bytes : List ℕ) where
   lead_agrees true = gap_agrees tables bytes
   lead_agrees false = may_gap_agrees tables bytes
 
-  -- after so many rows there is room for these
-  abbrev pub Few : ℕ → Sizes → List UnitRow → Type 0
-  Few used t rs = length rs ≤ t.rows - used
-
   module _ (sc : Scope) where
-    abbrev pub terms : ℕ → ℕ → Production (List UnitRow)
-    terms k used = record { spells = Term sc k; needs = Few used }
-
     pub term_begins : (k : ℕ) (rs : List UnitRow) {i j : ℕ} → Spelt (Term sc k rs) bytes i j → byte bytes i ≡ 40
     term_begins zero rs s = absurd s.belongs
     term_begins (suc k) [] s = absurd s.belongs
@@ -123,7 +123,7 @@ module _ (tables : Sizes) (bytes : List ℕ) where
             some (found a e is) = found a e is
             some (short place e lacks) = absurd (lacks tt)
 
-      module _ (k : ℕ) (rec : (used : ℕ) → Agrees tables bytes (read_term sc tables.rows k used) (λ rs. rs) (terms k used) Anywhere) where
+      module _ (k : ℕ) (rec : (used : ℕ) → Agrees tables bytes (read_term sc tables.rows k used) (λ rs. rs) (terms sc k used) Anywhere) where
         operands_agrees : (n : ℕ) (first : Bool) (used : ℕ) → Agrees tables bytes (read_operands (read_term sc tables.rows k) n first used) (λ rs. rs) (record { spells = Operands (Term sc k) n first; needs = Few used }) Anywhere
         operands_agrees zero first used = record {
           sound = λ i rs j l e.
@@ -144,7 +144,7 @@ module _ (tables : Sizes) (bytes : List ℕ) where
               (λ rs w h. (h.0.0, h.0.1, sym h.1, h.2)) (λ rs w h. ((h.0, h.1), sym h.2, h.3)) (λ t rs m. m) (λ t rs m. m)
               (image_agrees tables bytes (λ p. p.0 ++ p.1) (λ rs. rs) (λ p. p.0 ++ p.1) (Few used)
                 (after_agrees tables bytes (lead_agrees first)
-                  (pair_agrees tables bytes (λ a. record { spells = Operands (Term sc k) n false; needs = Few (used + length a) }) (rec used) (λ a _. operands_agrees n false (used + length a)) (λ a rs i j s stop. tt))
+                  (pair_agrees tables bytes (λ a. record { spells = Operands (Term sc k) n false; needs = Few (used + length a) }) (rec used) (λ a _. operands_agrees n false (used + length a)) (λ a _ rs i j s stop. tt))
                   (λ p i j s stop. term_stops k p.0 (parts s).1))
                 (λ p. refl)
                 (λ t p m. let a = m.0 in let b = m.1 in omega (arith, length-append p.0 p.1))
@@ -162,7 +162,7 @@ module _ (tables : Sizes) (bytes : List ℕ) where
           let lead : Spelt (Gap ⊙ Term sc k h.0 ⊙ Operands (Term sc k) n false h.1) bytes i c.0 = record { forward = c.1.forward; within = c.1.within; belongs = h.3 } in
           separator_no_head (byte bytes i) (white_begins bytes 32 refl (parts lead).1)
 
-      pub term_agrees : (k used : ℕ) → Agrees tables bytes (read_term sc tables.rows k used) (λ rs. rs) (terms k used) Anywhere
+      pub term_agrees : (k used : ℕ) → Agrees tables bytes (read_term sc tables.rows k used) (λ rs. rs) (terms sc k used) Anywhere
       unfolding read_begin
       term_agrees zero used = record {
         sound = λ i rs j l e.
@@ -174,12 +174,12 @@ module _ (tables : Sizes) (bytes : List ℕ) where
       term_agrees (suc k) used =
           same_agrees tables bytes (read_term sc tables.rows (suc k) used)
           (λ i. whole_step (read_begin sc (suc k) tables.rows used bytes i) (λ r j. read_operands (read_term sc tables.rows k) (operands_after r) true (used + 1) bytes j) (read_close bytes))
-          (renamed tables bytes (terms (suc k) used) there back (λ t rs m. m) (λ t rs m. m)
+          (renamed tables bytes (terms sc (suc k) used) there back (λ t rs m. m) (λ t rs m. m)
             (image_agrees tables bytes (λ p. p.0 ∷ p.1) (λ rs. rs) (λ p. p.0 ∷ p.1) (Few used)
               (pair_agrees tables bytes (λ r. behind (record { spells = Operands (Term sc k) (operands_after r) true; needs = Few (used + 1) }) Close)
                 (begin_agrees k used)
                 (λ r _. before_agrees tables bytes (operands_agrees k (term_agrees k) (operands_after r) true (used + 1)) close_agrees (λ b i j s stop. tt))
-                (λ r rs i j s stop. operands_stop k (operands_after r) rs s))
+                (λ r _ rs i j s stop. operands_stop k (operands_after r) rs s))
               (λ p. refl)
               (λ t p m. let a = m.0 in let b = m.1 in omega arith)
               (λ t p m. (omega arith, omega arith))))

@@ -25,6 +25,36 @@ use Rattle.jcode.proofs.Texts.{text_agrees}
 use Rattle.jcode.proofs.Terms.{Few, terms, term_agrees, term_stops}
 use Rattle.jcode.proofs.Lists.{listing_agrees, Target, target_agrees, target_stops}
 
+module _ (sc : Scope) (used : ℕ) where
+  -- after so many rows there is room for a statement's
+  abbrev pub FewRows : Sizes → Sentence (List ℕ) → Type 0
+  FewRows t s = length (rows_of s) ≤ t.rows - used
+
+  abbrev pub said : {B : Type 0} → (B → Sentence (List ℕ)) → Production B → Production (Sentence (List ℕ))
+  said f P = image f P FewRows
+
+  abbrev pub expression : Production (List UnitRow)
+  expression = terms sc 32 used
+
+  abbrev pub texted : Production (List ℕ)
+  texted = plain (λ t. MayGap ⊙ Text t ⊙ End)
+
+  abbrev pub gap_label : Production ℕ
+  gap_label = plain (λ l. Gap ⊙ Label l ⊙ End)
+
+  -- what follows a statement's word
+  abbrev pub spoken : Verb → Production (Sentence (List ℕ))
+  spoken verb.Break = said Break texted
+  spoken verb.Require = said (λ p. Require p.0 p.1) (ahead Gap (both expression (λ _. texted)))
+  spoken verb.Proclaim = said Proclaim (ahead Gap (behind expression End))
+  spoken verb.New = said (λ p. New p.0 p.1.0 p.1.1) (ahead Gap (both (plain (Listing sc)) (λ vs. ahead MayGap (both (terms (listing sc vs) 32 used) (λ _. texted)))))
+  spoken verb.Assign = said (λ p. Assign p.0 p.1.0 p.1.1) (ahead Gap (both (plain (Target sc)) (λ _. ahead MayGap (both expression (λ e. ahead MayGap (behind (terms sc 32 (used + length e)) End))))))
+  spoken verb.Split = said Split gap_label
+  spoken verb.When = said (λ p. When p.0 p.1) (ahead Gap (both expression (λ _. plain (λ l. MayGap ⊙ Label l ⊙ End))))
+  spoken verb.Branch = said (λ p. Branch p.0 p.1) (ahead Gap (both (plain Text) (λ _. plain (λ l. MayGap ⊙ Label l ⊙ End))))
+  spoken verb.Join = said Join gap_label
+  spoken verb.Hang = said (λ _. Hang) (mark End)
+
 module _ (tables : Sizes) (bytes : List ℕ) where
   abbrev Sep : ℕ → Type 0
   Sep = Stops separator bytes
@@ -60,93 +90,64 @@ module _ (tables : Sizes) (bytes : List ℕ) where
   gap_label_agrees = after_agrees tables bytes (gap_agrees tables bytes) labelled (λ l i j s stop. label_stops l (parts s).1)
 
   module _ (sc : Scope) (once : IsDistinct same_word sc.names) (used : ℕ) where
-    -- after so many rows there is room for a statement's
-    abbrev pub FewRows : Sizes → Sentence (List ℕ) → Type 0
-    FewRows t s = length (rows_of s) ≤ t.rows - used
-
-    abbrev pub said : {B : Type 0} → (B → Sentence (List ℕ)) → Production B → Production (Sentence (List ℕ))
-    said f P = image f P FewRows
-
-    abbrev expression : Production (List UnitRow)
-    expression = terms tables bytes sc 32 used
-
-    abbrev texted : Production (List ℕ)
-    texted = plain (λ t. MayGap ⊙ Text t ⊙ End)
-
-    abbrev gap_label : Production ℕ
-    gap_label = plain (λ l. Gap ⊙ Label l ⊙ End)
-
-    -- what follows a statement's word
-    abbrev pub spoken : Verb → Production (Sentence (List ℕ))
-    spoken verb.Break = said Break texted
-    spoken verb.Require = said (λ p. Require p.0 p.1) (ahead Gap (both expression (λ _. texted)))
-    spoken verb.Proclaim = said Proclaim (ahead Gap (behind expression End))
-    spoken verb.New = said (λ p. New p.0 p.1.0 p.1.1) (ahead Gap (both (plain (Listing sc)) (λ vs. ahead MayGap (both (terms tables bytes (listing sc vs) 32 used) (λ _. texted)))))
-    spoken verb.Assign = said (λ p. Assign p.0 p.1.0 p.1.1) (ahead Gap (both (plain (Target tables bytes sc once)) (λ _. ahead MayGap (both expression (λ e. ahead MayGap (behind (terms tables bytes sc 32 (used + length e)) End))))))
-    spoken verb.Split = said Split gap_label
-    spoken verb.When = said (λ p. When p.0 p.1) (ahead Gap (both expression (λ _. plain (λ l. MayGap ⊙ Label l ⊙ End))))
-    spoken verb.Branch = said (λ p. Branch p.0 p.1) (ahead Gap (both (plain Text) (λ _. plain (λ l. MayGap ⊙ Label l ⊙ End))))
-    spoken verb.Join = said Join gap_label
-    spoken verb.Hang = said (λ _. Hang) (mark End)
-
     abbrev told : Sentence Span → Sentence (List ℕ)
     told = retold (slice bytes)
 
-    pub verb_agrees : (v : Verb) → Agrees tables bytes (by_verb sc tables.rows used v) told (spoken v) Sep
-    verb_agrees verb.Break = image_agrees tables bytes Break told Break FewRows text_end_agrees (λ a. refl) (λ t b n. omega arith) (λ t b n. tt)
+    pub verb_agrees : (v : Verb) → Agrees tables bytes (by_verb sc tables.rows used v) told (spoken sc used v) Sep
+    verb_agrees verb.Break = image_agrees tables bytes Break told Break (FewRows sc used) text_end_agrees (λ a. refl) (λ t b n. omega arith) (λ t b n. tt)
     verb_agrees verb.Require =
-        image_agrees tables bytes (λ p. Require p.0 p.1) told (λ p. Require p.0 p.1) FewRows
+        image_agrees tables bytes (λ p. Require p.0 p.1) told (λ p. Require p.0 p.1) (FewRows sc used)
         (after_agrees tables bytes (gap_agrees tables bytes)
-          (pair_agrees tables bytes (λ _. texted) (term_agrees tables bytes sc once 32 used) (λ e _. text_end_agrees) (λ e t i j s stop. tt))
+          (pair_agrees tables bytes (λ _. texted sc used) (term_agrees tables bytes sc once 32 used) (λ e _. text_end_agrees) (λ e _ t i j s stop. tt))
           (λ p i j s stop. term_stops tables bytes sc 32 p.0 (parts s).1))
         (λ a. refl) (λ t b n. n.0) (λ t b n. (n, tt))
     verb_agrees verb.Proclaim =
-        image_agrees tables bytes Proclaim told Proclaim FewRows
+        image_agrees tables bytes Proclaim told Proclaim (FewRows sc used)
         (after_agrees tables bytes (gap_agrees tables bytes)
           (before_agrees tables bytes (term_agrees tables bytes sc once 32 used) (end_agrees tables bytes) (λ b i j s stop. tt))
           (λ e i j s stop. term_stops tables bytes sc 32 e (parts s).1))
         (λ a. refl) (λ t b n. n) (λ t b n. n)
     verb_agrees verb.New =
-        image_agrees tables bytes (λ p. New p.0 p.1.0 p.1.1) told (λ p. New p.0 p.1.0 p.1.1) FewRows
+        image_agrees tables bytes (λ p. New p.0 p.1.0 p.1.1) told (λ p. New p.0 p.1.0 p.1.1) (FewRows sc used)
         (after_agrees tables bytes (gap_agrees tables bytes)
-          (pair_agrees tables bytes (λ vs. ahead MayGap (both (terms tables bytes (listing sc vs) 32 used) (λ _. texted))) (listing_agrees tables bytes sc once)
+          (pair_agrees tables bytes (λ vs. ahead MayGap (both (terms (listing sc vs) 32 used) (λ _. texted sc used))) (listing_agrees tables bytes sc once)
             (λ vs _. after_agrees tables bytes (may_gap_agrees tables bytes)
-              (pair_agrees tables bytes (λ _. texted) (term_agrees tables bytes (listing sc vs) once 32 used) (λ e _. text_end_agrees) (λ e t i j s stop. tt))
+              (pair_agrees tables bytes (λ _. texted sc used) (term_agrees tables bytes (listing sc vs) once 32 used) (λ e _. text_end_agrees) (λ e _ t i j s stop. tt))
               (λ p i j s stop. term_stops tables bytes (listing sc vs) 32 p.0 (parts s).1))
-            (λ vs p i j s stop. tt))
+            (λ vs _ p i j s stop. tt))
           (λ p i j s stop. listing_stops p.0 (parts s).1))
         (λ a. refl) (λ t b n. n.1.0) (λ t b n. (tt, (n, tt)))
       where
         listing_stops : (vs : List ℕ) {i j : ℕ} → Spelt (Listing sc vs) bytes i j → Sep i
         listing_stops vs s = ap separator (begins_with bytes 40 [] (omega arith) (parts (spelt_as (λ w h. h.2) s)).1)
     verb_agrees verb.Assign =
-        image_agrees tables bytes (λ p. Assign p.0 p.1.0 p.1.1) told (λ p. Assign p.0 p.1.0 p.1.1) FewRows
+        image_agrees tables bytes (λ p. Assign p.0 p.1.0 p.1.1) told (λ p. Assign p.0 p.1.0 p.1.1) (FewRows sc used)
         (after_agrees tables bytes (gap_agrees tables bytes)
-          (pair_agrees tables bytes (λ _. ahead MayGap (both expression (λ e. ahead MayGap (behind (terms tables bytes sc 32 (used + length e)) End)))) (target_agrees tables bytes sc once)
+          (pair_agrees tables bytes (λ _. ahead MayGap (both (expression sc used) (λ e. ahead MayGap (behind (terms sc 32 (used + length e)) End)))) (target_agrees tables bytes sc once)
             (λ v _. after_agrees tables bytes (may_gap_agrees tables bytes)
-              (pair_agrees tables bytes (λ e. ahead MayGap (behind (terms tables bytes sc 32 (used + length e)) End)) (term_agrees tables bytes sc once 32 used)
+              (pair_agrees tables bytes (λ e. ahead MayGap (behind (terms sc 32 (used + length e)) End)) (term_agrees tables bytes sc once 32 used)
                 (λ e _. after_agrees tables bytes (may_gap_agrees tables bytes)
                   (before_agrees tables bytes (term_agrees tables bytes sc once 32 (used + length e)) (end_agrees tables bytes) (λ b i j s stop. tt))
                   (λ f i j s stop. term_stops tables bytes sc 32 f (parts s).1))
-                (λ e f i j s stop. tt))
+                (λ e _ f i j s stop. tt))
               (λ p i j s stop. term_stops tables bytes sc 32 p.0 (parts s).1))
-            (λ v p i j s stop. tt))
+            (λ v _ p i j s stop. tt))
           (λ p i j s stop. target_stops tables bytes sc once p.0 (parts s).1))
         (λ a. refl)
         (λ t b n. let x = n.1.0 in let y = n.1.1 in omega (arith, length-append b.1.0 b.1.1))
         (λ t b n. let e = length-append b.1.0 b.1.1 in (tt, (omega arith, omega arith)))
-    verb_agrees verb.Split = image_agrees tables bytes Split told Split FewRows gap_label_agrees (λ a. refl) (λ t b n. omega arith) (λ t b n. tt)
+    verb_agrees verb.Split = image_agrees tables bytes Split told Split (FewRows sc used) gap_label_agrees (λ a. refl) (λ t b n. omega arith) (λ t b n. tt)
     verb_agrees verb.When =
-        image_agrees tables bytes (λ p. When p.0 p.1) told (λ p. When p.0 p.1) FewRows
+        image_agrees tables bytes (λ p. When p.0 p.1) told (λ p. When p.0 p.1) (FewRows sc used)
         (after_agrees tables bytes (gap_agrees tables bytes)
-          (pair_agrees tables bytes (λ _. plain (λ l. MayGap ⊙ Label l ⊙ End)) (term_agrees tables bytes sc once 32 used) (λ e _. label_end_agrees) (λ e t i j s stop. tt))
+          (pair_agrees tables bytes (λ _. plain (λ l. MayGap ⊙ Label l ⊙ End)) (term_agrees tables bytes sc once 32 used) (λ e _. label_end_agrees) (λ e _ t i j s stop. tt))
           (λ p i j s stop. term_stops tables bytes sc 32 p.0 (parts s).1))
         (λ a. refl) (λ t b n. n.0) (λ t b n. (n, tt))
     verb_agrees verb.Branch =
-        image_agrees tables bytes (λ p. Branch p.0 p.1) told (λ p. Branch p.0 p.1) FewRows
+        image_agrees tables bytes (λ p. Branch p.0 p.1) told (λ p. Branch p.0 p.1) (FewRows sc used)
         (after_agrees tables bytes (gap_agrees tables bytes)
-          (pair_agrees tables bytes (λ _. plain (λ l. MayGap ⊙ Label l ⊙ End)) (text_agrees tables bytes) (λ e _. label_end_agrees) (λ e t i j s stop. tt))
+          (pair_agrees tables bytes (λ _. plain (λ l. MayGap ⊙ Label l ⊙ End)) (text_agrees tables bytes) (λ e _. label_end_agrees) (λ e _ t i j s stop. tt))
           (λ p i j s stop. text_stops p.0 (parts s).1))
         (λ a. refl) (λ t b n. omega arith) (λ t b n. (tt, tt))
-    verb_agrees verb.Join = image_agrees tables bytes Join told Join FewRows gap_label_agrees (λ a. refl) (λ t b n. omega arith) (λ t b n. tt)
-    verb_agrees verb.Hang = image_agrees tables bytes (λ _. Hang) told (λ _. Hang) FewRows (end_agrees tables bytes) (λ a. refl) (λ t b n. omega arith) (λ t b n. tt)
+    verb_agrees verb.Join = image_agrees tables bytes Join told Join (FewRows sc used) gap_label_agrees (λ a. refl) (λ t b n. omega arith) (λ t b n. tt)
+    verb_agrees verb.Hang = image_agrees tables bytes (λ _. Hang) told (λ _. Hang) (FewRows sc used) (end_agrees tables bytes) (λ a. refl) (λ t b n. omega arith) (λ t b n. tt)

@@ -1,11 +1,11 @@
 -- Units: reading and spelling agree.
-use Rattle.std.proofs.Common.{◌≡◌, ℕ, zero, suc, ◌+◌, ◌-◌, ◌<◌, ◌≤◌, min, Bool, true, false, List, [], ◌∷◌, ◌++◌, map, length, sym, refl, ap, ◌∙◌, subst, arith}
+use Rattle.std.proofs.Common.{◌≡◌, ℕ, zero, suc, ◌+◌, ◌-◌, ◌<◌, ◌≤◌, min, Bool, true, false, List, [], ◌∷◌, ◌++◌, map, length, get_or, sym, refl, ap, ◌∙◌, subst, arith}
 use Rattle.std.specs.Prelude.{codes}
 use Rattle.std.specs.List.{IsDistinct}
 use Rattle.terms.specs.Words.{same_word}
 use Rattle.jcode.specs.declared.span.Span.{Span}
 use Rattle.jcode.specs.declared.variable.Variable.{Variable}
-use Rattle.jcode.specs.Bytes.{separator, name_byte, slice}
+use Rattle.jcode.specs.Bytes.{separator, letter, name_byte, slice}
 use Rattle.jcode.specs.Language.{Language, ◌⊙◌, Spelt}
 use Rattle.jcode.specs.Spelling.{Declarations, Statements, names_of, scope_with, Heading, Spells, Sizes, Within, limits}
 use Rattle.jcode.specs.Pieces.{got, read_end}
@@ -15,11 +15,11 @@ use Rattle.jcode.specs.ReadUnits.{Tables, read_heading, scope_in, read_statement
 use Rattle.jcode.specs.Units.{Declared, declared_in, retold, JUnit, unit_in}
 use Rattle.jcode.specs.Notation.{sizes_of}
 use Rattle.jcode.proofs.Places.{byte, parts}
-use Rattle.jcode.proofs.Agreement.{Production, plain, both, kept, Stops, Agrees, after_agrees, before_agrees, pair_agrees, image_agrees, spelling, renamed, same_agrees}
+use Rattle.jcode.proofs.Agreement.{Production, plain, both, image, Stops, Agrees, after_agrees, before_agrees, pair_agrees, image_agrees, spelling, renamed, same_agrees}
 use Rattle.jcode.proofs.Marks.{gap_agrees, end_agrees}
 use Rattle.jcode.proofs.Classes.{begins, white_begins, letter_no_separator, separator_no_name}
 use Rattle.jcode.proofs.Words.{word_first, name_agrees, keyword_agrees}
-use Rattle.jcode.proofs.Declaring.{declarations, declarations_agree}
+use Rattle.jcode.proofs.Declaring.{declarations, declarations_agree, declarations_begin}
 use Rattle.jcode.proofs.Saying.{statements, statements_agrees, statements_begin}
 
 module _ (t : Tables) (bytes : List ℕ) where
@@ -35,7 +35,7 @@ module _ (t : Tables) (bytes : List ℕ) where
       after_agrees sizes bytes (keyword_agrees sizes bytes (codes "BEGIN") refl)
       (after_agrees sizes bytes (gap_agrees sizes bytes)
         (before_agrees sizes bytes (name_agrees sizes bytes) (end_agrees sizes bytes) (λ b i j s stop. separator_no_name (byte bytes i) (white_begins bytes 10 refl s)))
-        (λ n i j s stop. let c = parts s in letter_no_separator (byte bytes i) (begins bytes Rattle.jcode.specs.Bytes.letter refl (λ w h. ap (λ w. Rattle.jcode.specs.Bytes.letter (Rattle.std.proofs.Common.get_or w 0 0)) h.1 ∙ word_first n h.0.0) c.1)))
+        (λ n i j s stop. let c = parts s in letter_no_separator (byte bytes i) (begins bytes letter refl (λ w h. ap (λ w. letter (get_or w 0 0)) h.1 ∙ word_first n h.0.0) c.1)))
       (λ n i j s stop. separator_no_name (byte bytes i) (white_begins bytes 32 refl (parts s).1))
 
   names_in : (vs : List Variable) → map (name_in bytes) vs ≡ names_of (map (declared_in bytes) vs)
@@ -52,3 +52,34 @@ module _ (t : Tables) (bytes : List ℕ) where
 
   abbrev rest : Production (List Declared × List (Sentence (List ℕ)))
   rest = both (declarations sizes bytes) (λ ds. statements (scope_with ds))
+
+  rest_agrees : Agrees sizes bytes (read_rest t) (λ p. (map (declared_in bytes) p.0, map (retold (slice bytes)) p.1)) rest Sep
+  rest_agrees =
+      pair_agrees sizes bytes (λ ds. statements (scope_with ds)) (declarations_agree sizes bytes) (λ vs n. body_agrees vs n.1)
+      (λ ds _ ss i j s stop. statements_begin sizes bytes (scope_with ds) ss s stop)
+
+  abbrev unit_of_parts : List ℕ × (List Declared × List (Sentence (List ℕ))) → JUnit
+  unit_of_parts p = record { name = p.0; variables = p.1.0; statements = p.1.1 }
+
+  -- no name is declared twice
+  abbrev IsOnce : JUnit → Type 0
+  IsOnce u = IsDistinct same_word (names_of u.variables)
+
+  abbrev pub units : Production JUnit
+  units = record { spells = Spells; needs = Within }
+
+  pub unit_agrees : Agrees sizes bytes (read_unit t) (unit_in bytes) units Sep
+  unit_agrees =
+      renamed sizes bytes units
+      (λ u w h. (h.0, subst (λ u. (Heading u.name ⊙ Declarations u.variables ⊙ Statements (scope_with u.variables) u.statements) w) h.1.1 h.1.2))
+      (λ u w h. (h.0, ((u.name, (u.variables, u.statements)), refl, h.1)))
+      (λ t u n. n) (λ t u n. n)
+      (spelling sizes bytes {P = image unit_of_parts (both (plain Heading) (λ _. rest)) Within} IsOnce
+        (image_agrees sizes bytes located (unit_in bytes) unit_of_parts (λ t u. IsOnce u × Within t u)
+          (pair_agrees sizes bytes (λ _. rest) heading_agrees (λ s _. rest_agrees) (λ n _ p i j s stop. begin p s stop))
+          (λ p. refl)
+          (λ t p n. (n.1.0.1, record { variables = n.1.0.0; statements = n.1.1.0; rows = n.1.1.1 }))
+          (λ t p n. (tt, ((n.1.variables, n.0), (n.1.statements, n.1.rows))))))
+    where
+      begin : (p : List Declared × List (Sentence (List ℕ))) {i j : ℕ} → Spelt (Declarations p.0 ⊙ Statements (scope_with p.0) p.1) bytes i j → Sep j → Sep i
+      begin p s stop = let c = parts s in declarations_begin sizes bytes p.0 c.1 (statements_begin sizes bytes (scope_with p.0) p.1 c.2 stop)
