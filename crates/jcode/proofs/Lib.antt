@@ -29,3 +29,4 @@ pub mod Verbs
 pub mod Saying
 pub mod Declaring
 pub mod Whole
+pub mod Holding

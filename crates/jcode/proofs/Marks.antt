@@ -146,3 +146,15 @@ module _ (tables : Sizes) (bytes : List ℕ) where
       let run = front_is separator bytes i j (spelt_as (white_passes 10 refl) s) stop in
       let none : white 32 bytes i ≡ None = ap (λ b. then_some b (run_at separator bytes i).length) (ap (ends_in 32) run ∙ ends) in
       ap (λ o. i + unwrap_or o 0) none ∙ omega arith
+
+  -- a run of separators is taken whole
+  pub white_whole : (last i : ℕ) {j : ℕ} {u : Unit {0}} → read_white last bytes i ≡ got u j → Stops separator bytes j
+  white_whole last i {j = j} e =
+      let w = read_where last i (white last bytes i) refl e in
+      by (ends_in last (slice bytes (run_at separator bytes i))) w.0 w.1 w.2
+    where
+      by : (b : Bool) (n : ℕ) → then_some b (run_at separator bytes i).length ≡ Some n → i + n ≡ j → Stops separator bytes j
+      by true n is next =
+          let m : (run_at separator bytes i).length ≡ n = cc in
+          subst (Stops separator bytes) (ap (λ n. i + n) m ∙ next) (front_stops separator bytes i refl)
+      by false n is next = let z : ◌≡◌ {A = ℕ} 0 1 = cc in absurd (omega arith)

@@ -15,6 +15,20 @@ abbrev pub AllNeed : {B : Type 0} → (ℕ → Type 0) → (List B → B → Typ
 AllNeed room needs n seen [] = Unit {0}
 AllNeed room needs n seen (b ∷ bs) = room n × needs seen b × AllNeed room needs (n + 1) (seen ++ b ∷ []) bs
 
+-- what holds where every end is told holds where things are told
+pub repeated_ends : {A : Type 0} (bytes : List ℕ) (more : List ℕ → ℕ → Bool) (step : Bool → List A → Reader A) (done : List A → Reader (List A)) (C : ℕ → Type 0) → ((seen : List A) (i : ℕ) (all : List A) (j : ℕ) → done seen bytes i ≡ got all j → C j) → ((seen : List A) (i : ℕ) (a : A) (j : ℕ) → step true seen bytes i ≡ got a j → ⊥) → (left : ℕ) (seen : List A) (i : ℕ) (all : List A) (j : ℕ) → repeated more step done left seen bytes i ≡ got all j → C j
+repeated_ends bytes more step done C ends full zero seen i all j e =
+    ⊎_elim
+    (λ t. let u = then_got (step true seen bytes i) (λ _ j. got seen j) t.1 in absurd (full seen i u.0 u.1 u.2))
+    (λ t. ends seen i all j t.1)
+    (either_got (more bytes i) _ _ e)
+repeated_ends bytes more step done C ends full (suc left) seen i all j e =
+    ⊎_elim
+    (λ t. let u = then_got (step false seen bytes i) (λ a j. repeated more step done left (seen ++ a ∷ []) bytes j) t.1 in
+      repeated_ends bytes more step done C ends full left (seen ++ u.0 ∷ []) u.1 all j u.3)
+    (λ t. ends seen i all j t.1)
+    (either_got (more bytes i) _ _ e)
+
 module _ (tables : Sizes) (bytes : List ℕ) {A B : Type 0} (more : List ℕ → ℕ → Bool) (step : Bool → List A → Reader A) (done : List A → Reader (List A)) (view : A → B) (item : B → Language) (end : Language) (room : Sizes → ℕ → Type 0) (needs : Sizes → List B → B → Type 0) (p q : ℕ → Type 0) where
   abbrev pub after : List A → Production B
   after seen = record { spells = item; needs = λ t. needs t (map view seen) }

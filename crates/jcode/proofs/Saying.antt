@@ -13,7 +13,7 @@ use Rattle.jcode.specs.declared.statement_reader.Verb.TheVariants as verb
 use Rattle.jcode.specs.Bytes.{separator, letter, digit, name_byte, slice, stands, is_word}
 use Rattle.jcode.specs.Language.{Language, ◌⊙◌, Just, Gap, MayGap, End, Label, Text, Spelt}
 use Rattle.jcode.specs.Spelling.{Sizes, limits, Term, Says, Statements}
-use Rattle.jcode.specs.Pieces.{Answer, got, refuse, and_then, past_gap, read_word}
+use Rattle.jcode.specs.Pieces.{Answer, got, refuse, and_then, past_gap, read_end, read_word, read_keyword}
 use Rattle.jcode.specs.Scopes.{Scope}
 use Rattle.jcode.specs.ReadTerms.{UnitRow}
 use Rattle.jcode.specs.Tables.{full_by}
@@ -24,9 +24,9 @@ use Rattle.jcode.specs.Units.{retold}
 use Rattle.jcode.proofs.Outcomes.{refused_got, got_what, got_next, then_got, then_step}
 use Rattle.jcode.proofs.Places.{byte, joins, parts, spelt_as}
 use Rattle.jcode.proofs.Agreement.{Production, mark, Stops, Finds, found, short, Agrees, surely, finds_then, after_agrees, renamed}
-use Rattle.jcode.proofs.Repetition.{AllNeed, Repeats, many_agrees}
+use Rattle.jcode.proofs.Repetition.{AllNeed, Repeats, many_agrees, repeated_ends}
 use Rattle.jcode.proofs.Fronts.{stands_byte}
-use Rattle.jcode.proofs.Marks.{end_agrees, same_refl, past_gap_is, end_no_gap}
+use Rattle.jcode.proofs.Marks.{end_agrees, same_refl, past_gap_is, end_no_gap, white_whole}
 use Rattle.jcode.proofs.Classes.{begins, begins_with, white_begins, may_gap_stops, letter_no_separator, separator_no_name}
 use Rattle.jcode.proofs.Words.{word_first, word_agrees, keyword_agrees}
 use Rattle.jcode.proofs.Rows.{first_is}
@@ -338,3 +338,14 @@ module _ (tables : Sizes) (bytes : List ℕ) (sc : Scope) where
       let c = parts h in
       let e = word_read 0 s c.1 in
       (verb_begins s c.1, ap (colon_after bytes) e.3 ∙ speech_colonless 0 (kind s) s (statements_begin ss c.2 sep).0 e.1)
+
+  -- the end's separators are taken whole
+  pub statements_whole : (left : ℕ) (seen : List (Sentence Span)) (i : ℕ) (ss : List (Sentence Span)) (j : ℕ) → read_statements sc tables.rows tables.statements left seen bytes i ≡ got ss j → Sep j
+  unfolding read_finish
+  statements_whole =
+      repeated_ends bytes goes_on (λ full seen. read_sentence sc tables.rows (full_by tables.statements 200) full (length (rows_all seen))) (λ seen bytes at. and_then (read_finish bytes at) (λ _ i. got seen i)) Sep
+      (λ seen i all j e.
+        let t = then_got (read_finish bytes i) (λ _ i. got seen i) e in
+        let u = then_got (read_keyword (codes "END") bytes i) (λ _ i. read_end bytes i) t.2 in
+        subst Sep (got_next t.3) (white_whole tables bytes 10 u.1 u.3))
+      (λ seen i a j e. sentence_refused (length (rows_all seen)) (full_by tables.statements 200) i a j e)

@@ -1,26 +1,30 @@
 -- Units: reading and spelling agree.
-use Rattle.std.proofs.Common.{◌≡◌, ℕ, zero, suc, ◌+◌, ◌-◌, ◌<◌, ◌≤◌, min, Bool, true, false, List, [], ◌∷◌, ◌++◌, map, length, get_or, sym, refl, ap, ◌∙◌, subst, arith}
+use Rattle.std.proofs.Common.{◌≡◌, ℕ, zero, suc, ◌+◌, ◌-◌, ◌<◌, ◌≤◌, min, Bool, true, false, cond, List, [], ◌∷◌, ◌++◌, map, length, get_or, sym, refl, ap, ◌∙◌, subst, ⊎_elim, arith}
 use Rattle.std.specs.Prelude.{codes}
 use Rattle.std.specs.List.{IsDistinct}
+use Rattle.std.proofs.lemmas.Bool.{cases_lt, both_ways}
+use Rattle.std.proofs.lemmas.List.{get_or_past}
 use Rattle.terms.specs.Words.{same_word}
+use Rattle.jcode.specs.declared.refusal.Refusal.TheVariants.{Missing}
 use Rattle.jcode.specs.declared.span.Span.{Span}
 use Rattle.jcode.specs.declared.variable.Variable.{Variable}
 use Rattle.jcode.specs.Bytes.{separator, letter, name_byte, slice}
 use Rattle.jcode.specs.Language.{Language, ◌⊙◌, Spelt}
 use Rattle.jcode.specs.Spelling.{Declarations, Statements, names_of, scope_with, Heading, Spells, Sizes, Within, limits}
-use Rattle.jcode.specs.Pieces.{got, read_end}
+use Rattle.jcode.specs.Pieces.{got, refuse, and_then, ◌▷◌, ◌◁◌, ◌⊗◌, read_gap, read_end, read_word, read_name, read_keyword}
 use Rattle.jcode.specs.Scopes.{Scope, name_in}
 use Rattle.jcode.specs.Sentences.{Sentence}
-use Rattle.jcode.specs.ReadUnits.{Tables, read_heading, scope_in, read_statements, read_body, read_rest, located, read_unit}
+use Rattle.jcode.specs.ReadUnits.{Located, Tables, read_heading, scope_in, read_declarations, read_statements, read_body, read_rest, located, read_unit}
 use Rattle.jcode.specs.Units.{Declared, declared_in, retold, JUnit, unit_in}
 use Rattle.jcode.specs.Notation.{sizes_of}
+use Rattle.jcode.proofs.Outcomes.{got_next, then_got}
 use Rattle.jcode.proofs.Places.{byte, parts}
 use Rattle.jcode.proofs.Agreement.{Production, plain, both, image, Stops, Agrees, after_agrees, before_agrees, pair_agrees, image_agrees, spelling, renamed, same_agrees}
 use Rattle.jcode.proofs.Marks.{gap_agrees, end_agrees}
 use Rattle.jcode.proofs.Classes.{begins, white_begins, letter_no_separator, separator_no_name}
-use Rattle.jcode.proofs.Words.{word_first, name_agrees, keyword_agrees}
+use Rattle.jcode.proofs.Words.{word_first, word_is, name_agrees, keyword_agrees}
 use Rattle.jcode.proofs.Declaring.{declarations, declarations_agree, declarations_begin}
-use Rattle.jcode.proofs.Saying.{statements, statements_agrees, statements_begin}
+use Rattle.jcode.proofs.Saying.{statements, statements_agrees, statements_begin, statements_whole}
 
 module _ (t : Tables) (bytes : List ℕ) where
   abbrev Sep : ℕ → Type 0
@@ -83,3 +87,22 @@ module _ (t : Tables) (bytes : List ℕ) where
     where
       begin : (p : List Declared × List (Sentence (List ℕ))) {i j : ℕ} → Spelt (Declarations p.0 ⊙ Statements (scope_with p.0) p.1) bytes i j → Sep j → Sep i
       begin p s stop = let c = parts s in declarations_begin sizes bytes p.0 c.1 (statements_begin sizes bytes (scope_with p.0) p.1 c.2 stop)
+
+  -- a unit begins within the bytes, and its last separators are taken whole
+  pub unit_ends : (i : ℕ) (u : Located) (j : ℕ) → read_unit t bytes i ≡ got u j → (i < length bytes) × Sep j
+  unfolding read_heading
+  unit_ends i u j e =
+      let whole = then_got ((read_heading ⊗ λ _. read_rest t) bytes i) (λ p i. got (located p) i) e in
+      let a = then_got (read_heading bytes i) (λ s i. and_then (read_rest t bytes i) (λ p j. got (s, p) j)) whole.2 in
+      let b = then_got (read_rest t bytes a.1) (λ p j. got (a.0, p) j) a.3 in
+      let c = then_got (read_declarations (length t.variables) (min (length t.variables) 32) [] bytes a.1) (λ vs i. and_then (read_body t vs bytes i) (λ ss j. got (vs, ss) j)) b.2 in
+      let d = then_got (read_body t c.0 bytes c.1) (λ ss j. got (c.0, ss) j) c.3 in
+      let ends = statements_whole sizes bytes (scope_in bytes c.0) (min (length t.statements) 200) [] c.1 d.0 d.1 d.2 in
+      let k = then_got (read_keyword (codes "BEGIN") bytes i) (λ _ i. (read_gap ▷ (read_name ◁ read_end)) bytes i) a.2 in
+      let w = then_got (read_word bytes i) (λ s j. cond (same_word (slice bytes s) (codes "BEGIN")) (got tt j) (refuse Missing i)) k.2 in
+      let first = (word_is sizes bytes w.2).0 in
+      (⊎_elim
+        (λ h. h)
+        (λ h. absurd (both_ways (letter 0) refl (ap letter (sym (get_or_past bytes i 0 h)) ∙ first)))
+        (cases_lt i (length bytes)),
+        subst Sep (got_next d.3 ∙ got_next b.3 ∙ got_next whole.3) ends)
