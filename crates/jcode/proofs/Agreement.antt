@@ -121,8 +121,8 @@ module _ (tables : Sizes) (bytes : List ℕ) where
         let c = parts s in
         finds_then (λ c. (view c.0, view′ c.1)) ((both P Q).needs tables b) b j (λ a i. and_then (r₂ a bytes i) (λ b j. got (a, b) j)) (one.complete i b.0 c.0 c.1 n.0 (apart b.0 n.0 b.1 c.0 j c.2 stop)) (λ m. m.0)
         (λ a _ is.
-          let h : Agrees (r₂ a) view′ (Q b.0) q = subst (λ x. Agrees (r₂ a) view′ (Q x) q) is (two a (subst (P.needs limits) (sym is) n.0)) in
-          finds_then (λ c. (view c.0, view′ c.1)) ((both P Q).needs tables b) b j (λ b j. got (a, b) j) (h.complete c.0 b.1 j c.2 n.1 stop) (λ m. m.1) (λ d _ eq. found (a, d) refl (λ k. (is k, eq k))));
+        let h : Agrees (r₂ a) view′ (Q b.0) q = subst (λ x. Agrees (r₂ a) view′ (Q x) q) is (two a (subst (P.needs limits) (sym is) n.0)) in
+        finds_then (λ c. (view c.0, view′ c.1)) ((both P Q).needs tables b) b j (λ b j. got (a, b) j) (h.complete c.0 b.1 j c.2 n.1 stop) (λ m. m.1) (λ d _ eq. found (a, d) refl (λ k. (is k, eq k))));
   }
 
   pub image_agrees : {A B C D : Type 0} {r : Reader A} {view : A → B} {P : Production B} {p : ℕ → Type 0} (g : A → C) (view′ : C → D) (f : B → D) (N : Sizes → D → Type 0) → Agrees r view P p → ((a : A) → view′ (g a) ≡ f (view a)) → ((t : Sizes) (b : B) → P.needs t b → N t (f b)) → ((t : Sizes) (b : B) → N t (f b) → P.needs t b) → Agrees (r giving g) view′ (image f P N) p

@@ -79,10 +79,10 @@ module _ (bytes : List ℕ) where
   may_gap_stops p off {i = i} {j = j} s n =
       ⊎_elim
       (λ e. let f = s.forward in
-        let same : i ≡ j = omega (arith, length_between bytes i j s.within, ap length e) in
-        ap (λ k. p (byte bytes k)) same ∙ n)
+      let same : i ≡ j = omega (arith, length_between bytes i j s.within, ap length e) in
+      ap (λ k. p (byte bytes k)) same ∙ n)
       (λ h. let g : Spelt Gap bytes i j = record { forward = s.forward; within = s.within; belongs = h } in
-        off (byte bytes i) (white_begins 32 refl g))
+      off (byte bytes i) (white_begins 32 refl g))
       s.belongs
 
 pub separator_no_name : (b : ℕ) → separator b ≡ true → name_byte b ≡ false

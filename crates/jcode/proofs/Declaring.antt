@@ -153,8 +153,8 @@ module _ (tables : Sizes) (bytes : List ℕ) where
   colon_agrees =
       after_agrees tables bytes (may_gap_agrees tables bytes)
       (after_agrees tables bytes (mark_agrees tables bytes (codes ":"))
-        (after_agrees tables bytes (may_gap_agrees tables bytes) (mark_agrees tables bytes (codes "(")) (λ b i j s stop. ap separator (begins_with bytes 40 [] (omega arith) s)))
-        (λ b i j s stop. tt))
+      (after_agrees tables bytes (may_gap_agrees tables bytes) (mark_agrees tables bytes (codes "(")) (λ b i j s stop. ap separator (begins_with bytes 40 [] (omega arith) s)))
+      (λ b i j s stop. tt))
       (λ b i j s stop. ap separator (begins_with bytes 58 [] (omega arith) (parts s).1))
 
   class_agrees : Agrees tables bytes read_class (λ u. u) (mark (MayGap ⊙ Just (codes "variable") ⊙ MayGap ⊙ Just (codes "(") ⊙ MayGap)) Sep
@@ -162,10 +162,10 @@ module _ (tables : Sizes) (bytes : List ℕ) where
   class_agrees =
       after_agrees tables bytes (may_gap_agrees tables bytes)
       (after_agrees tables bytes (keyword_agrees tables bytes (codes "variable") refl)
-        (after_agrees tables bytes (may_gap_agrees tables bytes)
-          (after_agrees tables bytes (mark_agrees tables bytes (codes "(")) (may_gap_agrees tables bytes) (λ b i j s stop. tt))
-          (λ b i j s stop. bracket_stops s))
-        (λ b i j s stop. let c = parts s in may_gap_stops bytes name_byte separator_no_name c.1 (ap name_byte (begins_with bytes 40 [] (omega arith) (parts c.2).1))))
+      (after_agrees tables bytes (may_gap_agrees tables bytes)
+      (after_agrees tables bytes (mark_agrees tables bytes (codes "(")) (may_gap_agrees tables bytes) (λ b i j s stop. tt))
+      (λ b i j s stop. bracket_stops s))
+      (λ b i j s stop. let c = parts s in may_gap_stops bytes name_byte separator_no_name c.1 (ap name_byte (begins_with bytes 40 [] (omega arith) (parts c.2).1))))
       (λ b i j s stop. ap separator (begins_with bytes 118 (codes "ariable") (omega arith) (parts s).1))
 
   closing_agrees : Agrees tables bytes read_closing (λ u. u) (mark (Close ⊙ Close ⊙ End)) Sep
@@ -180,10 +180,10 @@ module _ (tables : Sizes) (bytes : List ℕ) where
   declared_agrees =
       renamed tables bytes (plain HasDomain) (λ d. nested) (λ d. unnested) (λ t d n. n) (λ t d n. n)
       (after_agrees tables bytes colon_agrees
-        (after_agrees tables bytes class_agrees
-          (before_agrees tables bytes domain_agrees closing_agrees (λ b i j s stop. close_stops tables bytes name_byte separator_no_name refl (parts s).1))
-          (λ d i j s stop. domain_begins d (parts s).1))
-        (λ d i j s stop. tt))
+      (after_agrees tables bytes class_agrees
+      (before_agrees tables bytes domain_agrees closing_agrees (λ b i j s stop. close_stops tables bytes name_byte separator_no_name refl (parts s).1))
+      (λ d i j s stop. domain_begins d (parts s).1))
+      (λ d i j s stop. tt))
     where
       -- as the brackets nest, and as the parts are read
       nested : {A B C O M V D K E : Language} (w : List ℕ) → ((A ⊙ B ⊙ C ⊙ O) ⊙ (M ⊙ V ⊙ A ⊙ O ⊙ M) ⊙ D ⊙ K ⊙ K ⊙ E) w → (A ⊙ B ⊙ C ⊙ (O ⊙ M ⊙ (V ⊙ A ⊙ (O ⊙ M ⊙ D ⊙ K)) ⊙ K) ⊙ E) w
@@ -216,11 +216,11 @@ module _ (tables : Sizes) (bytes : List ℕ) where
   fresh_agrees seen =
       same_agrees tables bytes (read_fresh seen) (λ i. refl)
       (kept_agrees tables bytes (IsNew seen) (λ i s j. cond (list_any (λ v. same_word (slice bytes s) (name_in bytes v)) seen) (refuse Unknown i) (got s j))
-        (λ i s j l e h. cond-false _ _ _ (names_any (slice bytes s) seen ∙ h))
-        (λ i s j l e c k h.
-          let u = unless_got (list_any (λ v. same_word (slice bytes s) (name_in bytes v)) seen) (got s j) _ h in
-          (u.1, sym (names_any (slice bytes s) seen) ∙ u.0))
-        (name_agrees tables bytes))
+      (λ i s j l e h. cond-false _ _ _ (names_any (slice bytes s) seen ∙ h))
+      (λ i s j l e c k h.
+      let u = unless_got (list_any (λ v. same_word (slice bytes s) (name_in bytes v)) seen) (got s j) _ h in
+      (u.1, sym (names_any (slice bytes s) seen) ∙ u.0))
+      (name_agrees tables bytes))
 
   abbrev NeedsNew : Sizes → List Declared → Declared → Type 0
   NeedsNew t seen d = Fresh same_word same_word_laws (λ d. d.name) seen d × Unit {0}
@@ -233,8 +233,8 @@ module _ (tables : Sizes) (bytes : List ℕ) where
       renamed tables bytes (record { spells = Declares; needs = λ t. NeedsNew t (map told seen) })
       (λ d w h. subst (λ d. Declares d w) h.1 h.2) (λ d w h. ((d.name, d.domain), refl, h)) (λ t d n. n) (λ t d n. n)
       (image_agrees tables bytes (λ p. record { name = p.0; domain = p.1 }) told made (λ t. NeedsNew t (map told seen))
-        (pair_agrees tables bytes (λ _. plain HasDomain) (fresh_agrees seen) (λ s _. declared_agrees) (λ n _ d i j s stop. no_name_follows d s))
-        (λ p. refl) (λ t p n. n.0) (λ t p n. (n, tt)))
+      (pair_agrees tables bytes (λ _. plain HasDomain) (fresh_agrees seen) (λ s _. declared_agrees) (λ n _ d i j s stop. no_name_follows d s))
+      (λ p. refl) (λ t p n. n.0) (λ t p n. (n, tt)))
 
   entry_agrees : (r : Refusal) (seen : List Variable) → Agrees tables bytes (read_entry r false seen) told (record { spells = Declares; needs = λ t. NeedsNew t (map told seen) }) Sep
   unfolding read_entry

@@ -36,8 +36,8 @@ module _ (p : ℕ → Bool) (bytes : List ℕ) (i : ℕ) where
   front_passes =
       let n = prefix_len p (drop i bytes) in
       list_all-from_AllPass p (take run (drop i bytes)) (λ k d h.
-        let l : k < run = omega (arith, Rattle.std.proofs.lemmas.List.length-take run (drop i bytes)) in
-        ap p (get_or-take run (drop i bytes) k d l) ∙ prefix_len_passes p (drop i bytes) k d (omega (arith, run_is)))
+      let l : k < run = omega (arith, Rattle.std.proofs.lemmas.List.length-take run (drop i bytes)) in
+      ap p (get_or-take run (drop i bytes) k d l) ∙ prefix_len_passes p (drop i bytes) k d (omega (arith, run_is)))
 
   -- the front as a piece, which ends there
   pub front_spelt : i ≤ length bytes → Spelt (λ w. w ≡ slice bytes (run_at p bytes i)) bytes i (i + run)

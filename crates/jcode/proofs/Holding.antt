@@ -44,4 +44,4 @@ held_whole bytes t u j =
     let rows = take_over t.rows (rows_all ss) in
     let statements = ap (λ n. take n (written u t).statements) (sym (length_laid 0 ss)) ∙ take_over t.statements (laid_all 0 ss) in
     ap (unit_in bytes) ((λ k. record { name = u.name; variables = take_over t.variables u.variables k; sentences = map (sentence_in (rows k)) (statements k) })
-      ∙ ap (λ ss. record { name = u.name; variables = u.variables; sentences = ss }) (all_held (rows_all ss) 0 ss [] refl refl))
+    ∙ ap (λ ss. record { name = u.name; variables = u.variables; sentences = ss }) (all_held (rows_all ss) 0 ss [] refl refl))

@@ -30,3 +30,5 @@ pub mod Saying
 pub mod Declaring
 pub mod Whole
 pub mod Holding
+pub mod Blame
+pub mod Accepting

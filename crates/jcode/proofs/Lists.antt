@@ -104,12 +104,12 @@ module _ (tables : Sizes) (bytes : List ℕ) (sc : Scope) (once : IsDistinct sam
         ⊎_elim
         (λ t. stands_as tables bytes (λ vs. vs) {P = kept NoneTwice (plain (Names sc))} t.1 (record { spelt = byte_spelt bytes 41 (omega arith) i l t.0; keeps = ((omega arith, tt), tt); fits = ((omega arith, tt), tt) }))
         (λ t.
-          let u = then_got (read_variable sc bytes i) (λ v j. read_more sc 7 (v ∷ []) bytes j) t.1 in
-          let s = ((variable_agrees tables bytes sc once).sound i u.0 u.1 l u.2).spelt in
-          let m = many_sound tables bytes goes_on (λ full seen. read_gap ▷ read_unseen sc full seen) (λ seen. read_close giving (λ _. seen)) (λ v. v) (λ v. Gap ⊙ Variable sc v) Close (λ t n. n < 8) NeedsFresh (Stops name_byte bytes) Anywhere 8 repeats 7 1 (u.0 ∷ []) u.1 vs j (omega arith) s.within u.3 in
-          let is : vs ≡ u.0 ∷ m.rest = sym (map-id vs) ∙ m.is in
-          let n = twice_there u.0 m.rest m.keeps in
-          subst (λ vs. Stands tables bytes (kept NoneTwice (plain (Names sc))) i vs j) (sym is) (record { spelt = joins s m.spelt; keeps = (n, tt); fits = (n, tt) }))
+        let u = then_got (read_variable sc bytes i) (λ v j. read_more sc 7 (v ∷ []) bytes j) t.1 in
+        let s = ((variable_agrees tables bytes sc once).sound i u.0 u.1 l u.2).spelt in
+        let m = many_sound tables bytes goes_on (λ full seen. read_gap ▷ read_unseen sc full seen) (λ seen. read_close giving (λ _. seen)) (λ v. v) (λ v. Gap ⊙ Variable sc v) Close (λ t n. n < 8) NeedsFresh (Stops name_byte bytes) Anywhere 8 repeats 7 1 (u.0 ∷ []) u.1 vs j (omega arith) s.within u.3 in
+        let is : vs ≡ u.0 ∷ m.rest = sym (map-id vs) ∙ m.is in
+        let n = twice_there u.0 m.rest m.keeps in
+        subst (λ vs. Stands tables bytes (kept NoneTwice (plain (Names sc))) i vs j) (sym is) (record { spelt = joins s m.spelt; keeps = (n, tt); fits = (n, tt) }))
         (either_got (stands 41 bytes i) _ _ e);
     complete = λ i vs j s n stop. by i vs j s n.0;
   }
@@ -124,9 +124,9 @@ module _ (tables : Sizes) (bytes : List ℕ) (sc : Scope) (once : IsDistinct sam
           let fresh = twice_back v vs n in
           subst (λ o. Finds tables bytes (λ vs. vs) (NoneTwice (v ∷ vs) × Unit {0}) o (v ∷ vs) j) (sym (cond-false _ _ _ open_list))
           (finds_then tables bytes (λ vs. vs) (NoneTwice (v ∷ vs) × Unit {0}) (v ∷ vs) j (λ v j. read_more sc 7 (v ∷ []) bytes j)
-            ((variable_agrees tables bytes sc once).complete i v c.0 c.1 tt more) (λ m. tt)
-            (λ a _ is.
-              listed a v vs is (many_complete tables bytes goes_on (λ full seen. read_gap ▷ read_unseen sc full seen) (λ seen. read_close giving (λ _. seen)) (λ v. v) (λ v. Gap ⊙ Variable sc v) Close (λ t n. n < 8) NeedsFresh (Stops name_byte bytes) Anywhere 8 repeats 7 1 (a ∷ []) c.0 vs j (omega arith) c.2 (subst (λ a. SomeFresh a vs) (sym is) fresh) tt)))
+          ((variable_agrees tables bytes sc once).complete i v c.0 c.1 tt more) (λ m. tt)
+          (λ a _ is.
+          listed a v vs is (many_complete tables bytes goes_on (λ full seen. read_gap ▷ read_unseen sc full seen) (λ seen. read_close giving (λ _. seen)) (λ v. v) (λ v. Gap ⊙ Variable sc v) Close (λ t n. n < 8) NeedsFresh (Stops name_byte bytes) Anywhere 8 repeats 7 1 (a ∷ []) c.0 vs j (omega arith) c.2 (subst (λ a. SomeFresh a vs) (sym is) fresh) tt)))
         where
           after_first : (vs : List ℕ) {i j : ℕ} → Spelt (MoreNames sc vs) bytes i j → Stops name_byte bytes i
           after_first [] s = close_stops tables bytes name_byte separator_no_name refl s
@@ -145,9 +145,9 @@ module _ (tables : Sizes) (bytes : List ℕ) (sc : Scope) (once : IsDistinct sam
   listing_agrees =
       renamed tables bytes (plain (Listing sc)) (λ vs w h. (h.0.0, h.0.1, h.1)) (λ vs w h. ((h.0, h.1), h.2)) (λ t vs n. n) (λ t vs n. n)
       (spelling tables bytes {P = plain (λ vs. Just (codes "(") ⊙ MayGap ⊙ Names sc vs)} NoneTwice
-        (after_agrees tables bytes (mark_agrees tables bytes (codes "("))
-          (after_agrees tables bytes (may_gap_agrees tables bytes) names_agrees (λ vs i j s stop. names_stop vs s))
-          (λ vs i j s stop. tt)))
+      (after_agrees tables bytes (mark_agrees tables bytes (codes "("))
+      (after_agrees tables bytes (may_gap_agrees tables bytes) names_agrees (λ vs i j s stop. names_stop vs s))
+      (λ vs i j s stop. tt)))
 
   close_after_name : (v : ℕ) {i j : ℕ} → Spelt (Variable sc v ⊙ Close) bytes i j → Stops separator bytes i
   close_after_name v s = variable_stops tables bytes sc once v (parts s).1
@@ -157,8 +157,8 @@ module _ (tables : Sizes) (bytes : List ℕ) (sc : Scope) (once : IsDistinct sam
   single_agrees =
       after_agrees tables bytes (mark_agrees tables bytes (codes "("))
       (after_agrees tables bytes (may_gap_agrees tables bytes)
-        (before_agrees tables bytes (variable_agrees tables bytes sc once) (close_agrees tables bytes) (λ b i j s stop. close_stops tables bytes name_byte separator_no_name refl s))
-        (λ v i j s stop. close_after_name v s))
+      (before_agrees tables bytes (variable_agrees tables bytes sc once) (close_agrees tables bytes) (λ b i j s stop. close_stops tables bytes name_byte separator_no_name refl s))
+      (λ v i j s stop. close_after_name v s))
       (λ v i j s stop. tt)
 
   again_agrees : (v : ℕ) → Agrees tables bytes (read_again sc v) (λ u. u) (mark (Variable sc v)) (Stops name_byte bytes)
@@ -180,18 +180,18 @@ module _ (tables : Sizes) (bytes : List ℕ) (sc : Scope) (once : IsDistinct sam
   repeated_agrees v =
       after_agrees tables bytes (may_gap_agrees tables bytes)
       (after_agrees tables bytes (mark_agrees tables bytes (codes "("))
-        (after_agrees tables bytes (may_gap_agrees tables bytes)
-          (after_agrees tables bytes (again_agrees v) (close_agrees tables bytes) (λ b i j s stop. close_stops tables bytes name_byte separator_no_name refl s))
-          (λ b i j s stop. close_after_name v s))
-        (λ b i j s stop. tt))
+      (after_agrees tables bytes (may_gap_agrees tables bytes)
+      (after_agrees tables bytes (again_agrees v) (close_agrees tables bytes) (λ b i j s stop. close_stops tables bytes name_byte separator_no_name refl s))
+      (λ b i j s stop. close_after_name v s))
+      (λ b i j s stop. tt))
       (λ b i j s stop. ap separator (begins_with bytes 40 [] (omega arith) (parts s).1))
 
   pub target_agrees : Agrees tables bytes (read_target sc) (λ v. v) (plain (Target sc)) Anywhere
   target_agrees =
       renamed tables bytes (plain (Target sc)) (λ v w h. subst (λ v. Target sc v w) h.1 h.2) (λ v w h. ((v, tt), refl, h)) (λ t v n. n) (λ t v n. n)
       (image_agrees tables bytes (λ p. p.0) (λ v. v) (λ p. p.0) (λ t v. Unit {0})
-        (pair_agrees tables bytes (λ v. mark (MayGap ⊙ Bracketed (Variable sc v))) single_agrees (λ v _. repeated_agrees v) (λ v _ b i j s stop. tt))
-        (λ p. refl) (λ t p n. tt) (λ t p n. (tt, tt)))
+      (pair_agrees tables bytes (λ v. mark (MayGap ⊙ Bracketed (Variable sc v))) single_agrees (λ v _. repeated_agrees v) (λ v _ b i j s stop. tt))
+      (λ p. refl) (λ t p n. tt) (λ t p n. (tt, tt)))
 
   pub target_stops : (v : ℕ) {i j : ℕ} → Spelt (Target sc v) bytes i j → Stops separator bytes i
   target_stops v s = ap separator (begins_with bytes 40 [] (omega arith) (parts (parts s).1).1)

@@ -103,13 +103,13 @@ module _ (tables : Sizes) (bytes : List ℕ) where
     past_gap_is j s stop =
         ⊎_elim
         (λ e.
-          let none : Spelt (λ w. list_all separator w ≡ true) bytes i j = record { forward = s.forward; within = s.within; belongs = ap (list_all separator) e } in
-          let f = s.forward in
-          let w : white 32 bytes i ≡ None = ap (λ r. then_some (ends_in 32 r) (run_at separator bytes i).length) (front_is separator bytes i j none stop ∙ e) in
-          ap (λ o. i + unwrap_or o 0) w ∙ omega (arith, length_between bytes i j s.within, ap length e))
+        let none : Spelt (λ w. list_all separator w ≡ true) bytes i j = record { forward = s.forward; within = s.within; belongs = ap (list_all separator) e } in
+        let f = s.forward in
+        let w : white 32 bytes i ≡ None = ap (λ r. then_some (ends_in 32 r) (run_at separator bytes i).length) (front_is separator bytes i j none stop ∙ e) in
+        ap (λ o. i + unwrap_or o 0) w ∙ omega (arith, length_between bytes i j s.within, ap length e))
         (λ h.
-          let w = white_read bytes 32 (omega arith) refl i j (record { forward = s.forward; within = s.within; belongs = h }) stop in
-          ap (λ o. i + unwrap_or o 0) w.1 ∙ w.2)
+        let w = white_read bytes 32 (omega arith) refl i j (record { forward = s.forward; within = s.within; belongs = h }) stop in
+        ap (λ o. i + unwrap_or o 0) w.1 ∙ w.2)
         s.belongs
 
   pub may_gap_agrees : Agrees tables bytes read_may_gap (λ u. u) (mark MayGap) (Stops separator bytes)
@@ -125,10 +125,10 @@ module _ (tables : Sizes) (bytes : List ℕ) where
         let t = when_got (same_word (take (length w) (drop i bytes)) w) (got tt (i + length w)) _ e in
         let is = same_words (take (length w) (drop i bytes)) w t.0 in
         record {
-      spelt = subst (Spelt (Just w) bytes i) (got_next t.1) (spelt_front (Just w) i (length w) l (omega (arith, ap length is, length-take (length w) (drop i bytes))) is);
-      keeps = tt;
-      fits = tt;
-    };
+          spelt = subst (Spelt (Just w) bytes i) (got_next t.1) (spelt_front (Just w) i (length w) l (omega (arith, ap length is, length-take (length w) (drop i bytes))) is);
+          keeps = tt;
+          fits = tt;
+        };
     complete = λ i b j s n stop.
         let f = s.forward in
         let len : length w ≡ j - i = omega (arith, length_between bytes i j s.within, ap length s.belongs) in

@@ -47,9 +47,9 @@ zero_alone s e some z =
 zero_apart : (n : ℕ) → n < 2 ^ 64 → not (ltb 1 (length (decimal n)) && stands 48 (decimal n) 0) ≡ true
 zero_apart n small =
     not_from_false _ (⊎_elim
-      (λ h. and_right _ _ (stands_byte 48 (omega arith) (decimal n) 0 ∙ ne_eqb _ _ (λ e. omega (arith, first_decimal n h small))))
-      (λ h. and_left _ _ (le-ltb 1 (length (decimal n)) (omega (arith, ap length (decimal_digit n (omega arith))))))
-      (cases_lt 0 n))
+    (λ h. and_right _ _ (stands_byte 48 (omega arith) (decimal n) 0 ∙ ne_eqb _ _ (λ e. omega (arith, first_decimal n h small))))
+    (λ h. and_left _ _ (le-ltb 1 (length (decimal n)) (omega (arith, ap length (decimal_digit n (omega arith))))))
+    (cases_lt 0 n))
 
 pub decimal_first : (n : ℕ) → n < 2 ^ 64 → digit (get_or (decimal n) 0 0) ≡ true
 decimal_first n small = first (decimal n) (digits_decimal own n small) (decimal_nonempty n small)
@@ -111,14 +111,14 @@ module _ (tables : Sizes) (bytes : List ℕ) where
     sound = λ i z j l e.
         ⊎_elim
         (λ t.
-          let u = then_got (read_decimal i 1 greatest bytes (i + 1)) (λ n j. got (neg_ℤ (pos n)) j) t.1 in
-          let dash = byte_spelt bytes 45 (omega arith) i l t.0 in
-          let p = decimal_sound tables bytes 1 2000000000 (omega arith) i (i + 1) u.0 u.1 dash.within u.2 in
-          record { spelt = subst (λ z. Spelt (Number z) bytes i j) (got_what u.3) (subst (Spelt (Number (neg_ℤ (pos u.0))) bytes i) (got_next u.3) (spelt_as (minus u.0) (joins dash p))); keeps = tt; fits = tt })
+        let u = then_got (read_decimal i 1 greatest bytes (i + 1)) (λ n j. got (neg_ℤ (pos n)) j) t.1 in
+        let dash = byte_spelt bytes 45 (omega arith) i l t.0 in
+        let p = decimal_sound tables bytes 1 2000000000 (omega arith) i (i + 1) u.0 u.1 dash.within u.2 in
+        record { spelt = subst (λ z. Spelt (Number z) bytes i j) (got_what u.3) (subst (Spelt (Number (neg_ℤ (pos u.0))) bytes i) (got_next u.3) (spelt_as (minus u.0) (joins dash p))); keeps = tt; fits = tt })
         (λ t.
-          let u = then_got (read_decimal i 0 greatest bytes i) (λ n j. got (pos n) j) t.1 in
-          let p = decimal_sound tables bytes 0 2000000000 (omega arith) i i u.0 u.1 l u.2 in
-          record { spelt = subst (λ z. Spelt (Number z) bytes i j) (got_what u.3) (subst (Spelt (Number (pos u.0)) bytes i) (got_next u.3) (spelt_as (λ w h. let l = h.1 in (omega (arith, ints), omega (arith, ints), h.2)) p)); keeps = tt; fits = tt })
+        let u = then_got (read_decimal i 0 greatest bytes i) (λ n j. got (pos n) j) t.1 in
+        let p = decimal_sound tables bytes 0 2000000000 (omega arith) i i u.0 u.1 l u.2 in
+        record { spelt = subst (λ z. Spelt (Number z) bytes i j) (got_what u.3) (subst (Spelt (Number (pos u.0)) bytes i) (got_next u.3) (spelt_as (λ w h. let l = h.1 in (omega (arith, ints), omega (arith, ints), h.2)) p)); keeps = tt; fits = tt })
         (either_got (stands 45 bytes i) _ _ e);
     complete = λ i z j s _ stop. by i z j s stop;
   }

@@ -55,10 +55,11 @@ module _ {bytes : List ℕ} where
       let b = p.belongs in
       let n = cut_fits bytes i k b.0 b.1 p.forward p.within b.4 in
       let l = p.within in
-      let f = p.forward in
-      (i + length b.0,
+      let f = p.forward in (
+        i + length b.0,
         record { forward = omega arith; within = omega arith; belongs = subst P (sym (cut_left bytes i k b.0 b.1 f l b.4)) b.2 },
-        record { forward = omega arith; within = l; belongs = subst Q (sym (cut_right bytes i k b.0 b.1 f l b.4)) b.3 })
+        record { forward = omega arith; within = l; belongs = subst Q (sym (cut_right bytes i k b.0 b.1 f l b.4)) b.3 },
+      )
 
   pub spelt_as : {P Q : Language} {i j : ℕ} → ((w : List ℕ) → P w → Q w) → Spelt P bytes i j → Spelt Q bytes i j
   spelt_as f p = record { forward = p.forward; within = p.within; belongs = f _ p.belongs }
@@ -73,10 +74,10 @@ module _ {bytes : List ℕ} where
   spelt_front P i n h l p =
       let m : i + n - i ≡ n = omega arith in
       record {
-    forward = omega arith;
-    within = omega (arith, length-drop i bytes);
-    belongs = subst (λ n. P (take n (drop i bytes))) (sym m) p;
-  }
+        forward = omega arith;
+        within = omega (arith, length-drop i bytes);
+        belongs = subst (λ n. P (take n (drop i bytes))) (sym m) p;
+      }
 
   -- these bytes end there
   pub just_next : {w : List ℕ} {i j : ℕ} → Spelt (Just w) bytes i j → i + length w ≡ j

@@ -25,7 +25,7 @@ repeated_ends bytes more step done C ends full zero seen i all j e =
 repeated_ends bytes more step done C ends full (suc left) seen i all j e =
     ⊎_elim
     (λ t. let u = then_got (step false seen bytes i) (λ a j. repeated more step done left (seen ++ a ∷ []) bytes j) t.1 in
-      repeated_ends bytes more step done C ends full left (seen ++ u.0 ∷ []) u.1 all j u.3)
+    repeated_ends bytes more step done C ends full left (seen ++ u.0 ∷ []) u.1 all j u.3)
     (λ t. ends seen i all j t.1)
     (either_got (more bytes i) _ _ e)
 
@@ -68,12 +68,12 @@ module _ (tables : Sizes) (bytes : List ℕ) {A B : Type 0} (more : List ℕ →
         let e = map_push view seen a in
         let o = r.opened n h in
         record {
-      rest = view a ∷ t.rest;
-      is = t.is ∙ ap (λ s. s ++ t.rest) e ∙ append_assoc (map view seen) (view a ∷ []) t.rest;
-      spelt = joins s.spelt t.spelt;
-      keeps = (o.0, s.keeps, subst (λ s. All limits (n + 1) s t.rest) e t.keeps);
-      fits = (o.1, s.fits, subst (λ s. All tables (n + 1) s t.rest) e t.fits);
-    }
+          rest = view a ∷ t.rest;
+          is = t.is ∙ ap (λ s. s ++ t.rest) e ∙ append_assoc (map view seen) (view a ∷ []) t.rest;
+          spelt = joins s.spelt t.spelt;
+          keeps = (o.0, s.keeps, subst (λ s. All limits (n + 1) s t.rest) e t.keeps);
+          fits = (o.1, s.fits, subst (λ s. All tables (n + 1) s t.rest) e t.fits);
+        }
 
     pub many_sound : (left n : ℕ) (seen : List A) (i : ℕ) (all : List A) (j : ℕ) → left + n ≡ most → i ≤ length bytes → repeated more step done left seen bytes i ≡ got all j → Seen n (map view seen) i (map view all) j
     many_sound zero n seen i all j count l e =
@@ -84,9 +84,9 @@ module _ (tables : Sizes) (bytes : List ℕ) {A B : Type 0} (more : List ℕ →
     many_sound (suc left) n seen i all j count l e =
         ⊎_elim
         (λ t.
-          let u = then_got (step false seen bytes i) (λ a j. repeated more step done left (seen ++ a ∷ []) bytes j) t.1 in
-          let s = (r.items seen).sound i u.0 u.1 l u.2 in
-          one_more n seen u.0 i u.1 j (map view all) (omega arith) s (many_sound left (n + 1) (seen ++ u.0 ∷ []) u.1 all j (omega arith) s.spelt.within u.3))
+        let u = then_got (step false seen bytes i) (λ a j. repeated more step done left (seen ++ a ∷ []) bytes j) t.1 in
+        let s = (r.items seen).sound i u.0 u.1 l u.2 in
+        one_more n seen u.0 i u.1 j (map view all) (omega arith) s (many_sound left (n + 1) (seen ++ u.0 ∷ []) u.1 all j (omega arith) s.spelt.within u.3))
         (λ t. closed n seen i all j l t.1)
         (either_got (more bytes i) _ _ e)
 
@@ -114,11 +114,11 @@ module _ (tables : Sizes) (bytes : List ℕ) {A B : Type 0} (more : List ℕ →
         let c = parts s in
         let V = map view seen in
         let after_one = finds_then tables bytes (map view) (All tables n V (b ∷ bs)) (V ++ b ∷ bs) j (λ a j. repeated more step done left (seen ++ a ∷ []) bytes j)
-            ((r.items seen).complete i b c.0 c.1 need.1 (many_stops bs c.0 j c.2 stop)) (λ m. m.1)
-            (λ a _ is.
-              let e : map view (seen ++ a ∷ []) ≡ V ++ b ∷ [] = map_push view seen a ∙ ap (λ x. V ++ x ∷ []) is in
-              let h = many_complete left (n + 1) (seen ++ a ∷ []) c.0 bs j (omega arith) c.2 (subst (λ s. All limits (n + 1) s bs) (sym e) need.2) stop in
-              finds_as tables bytes (All tables n V (b ∷ bs)) h (λ m. subst (λ s. All tables (n + 1) s bs) (sym e) m.2) (ap (λ s. s ++ bs) e ∙ append_assoc V (b ∷ []) bs)) in
+        ((r.items seen).complete i b c.0 c.1 need.1 (many_stops bs c.0 j c.2 stop)) (λ m. m.1)
+        (λ a _ is.
+        let e : map view (seen ++ a ∷ []) ≡ V ++ b ∷ [] = map_push view seen a ∙ ap (λ x. V ++ x ∷ []) is in
+        let h = many_complete left (n + 1) (seen ++ a ∷ []) c.0 bs j (omega arith) c.2 (subst (λ s. All limits (n + 1) s bs) (sym e) need.2) stop in
+        finds_as tables bytes (All tables n V (b ∷ bs)) h (λ m. subst (λ s. All tables (n + 1) s bs) (sym e) m.2) (ap (λ s. s ++ bs) e ∙ append_assoc V (b ∷ []) bs)) in
         subst (λ o. FindsMany n seen o (b ∷ bs) j) (sym (cond-true _ _ _ (r.goes_on b i c.0 c.1))) after_one
 
     pub many_agrees : Agrees tables bytes (repeated more step done most []) (map view) (record { spells = Many item end; needs = λ t. All t 0 [] }) q
@@ -126,9 +126,9 @@ module _ (tables : Sizes) (bytes : List ℕ) {A B : Type 0} (more : List ℕ →
       sound = λ i all j l e.
           let s = many_sound most 0 [] i all j (omega arith) l e in
           record {
-        spelt = subst (λ bs. Spelt (Many item end bs) bytes i j) (sym s.is) s.spelt;
-        keeps = subst (All limits 0 []) (sym s.is) s.keeps;
-        fits = subst (All tables 0 []) (sym s.is) s.fits;
-      };
+            spelt = subst (λ bs. Spelt (Many item end bs) bytes i j) (sym s.is) s.spelt;
+            keeps = subst (All limits 0 []) (sym s.is) s.keeps;
+            fits = subst (All tables 0 []) (sym s.is) s.fits;
+          };
       complete = λ i bs j s need stop. many_complete most 0 [] i bs j (omega arith) s need stop;
     }

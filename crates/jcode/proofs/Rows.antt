@@ -39,8 +39,8 @@ first_is word w [] x e = let z : ◌≡◌ {A = ℕ} 0 1 = cc in absurd (omega a
 first_is word w (y ∷ xs) x e =
     ⊎_elim
     (λ t. let s : Some y ≡ Some x = sym (cond-true _ _ _ t) ∙ e in
-      let same : y ≡ x = cc in
-      same_words w (word y) t ∙ ap word same)
+    let same : y ≡ x = cc in
+    same_words w (word y) t ∙ ap word same)
     (λ t. first_is word w xs x (sym (cond-false _ _ _ t) ∙ e))
     (cases_Bool (same_word w (word y)))
 
@@ -117,14 +117,14 @@ module _ (tables : Sizes) (bytes : List ℕ) where
           let p = ((name_agrees tables bytes).sound i t.0 t.1 l t.2).spelt in
           ⊎_elim
           (λ u.
-            let bang = byte_spelt bytes 33 (omega arith) t.1 p.within u.0 in
-            let q = (agrees i w).sound (t.1 + 1) r k bang.within u.1 in
-            let head : Spelt (Just (w ++ codes "!")) bytes i (t.1 + 1) = spelt_as (λ x h. h.4 ∙ (λ m. h.2.1 m ++ h.3 m)) (joins p bang) in
-            spelt_as (λ x h. inl (w, p.belongs.0, h)) (joins head q.spelt))
+          let bang = byte_spelt bytes 33 (omega arith) t.1 p.within u.0 in
+          let q = (agrees i w).sound (t.1 + 1) r k bang.within u.1 in
+          let head : Spelt (Just (w ++ codes "!")) bytes i (t.1 + 1) = spelt_as (λ x h. h.4 ∙ (λ m. h.2.1 m ++ h.3 m)) (joins p bang) in
+          spelt_as (λ x h. inl (w, p.belongs.0, h)) (joins head q.spelt))
           (λ u.
-            let v = then_got (known sc bytes t.0 t.1) (λ v k. got (row v) k) u.1 in
-            let q = known_spelt tables bytes sc t.0 v.2 p in
-            subst (Spelt (Opens L row r) bytes i) (got_next v.3) (spelt_as (λ x h. inr (v.0, got_what v.3, h)) q))
+          let v = then_got (known sc bytes t.0 t.1) (λ v k. got (row v) k) u.1 in
+          let q = known_spelt tables bytes sc t.0 v.2 p in
+          subst (Spelt (Opens L row r) bytes i) (got_next v.3) (spelt_as (λ x h. inr (v.0, got_what v.3, h)) q))
           (either_got (stands 33 bytes t.1) _ _ t.3)
 
       opens_complete : (i : ℕ) (r : UnitRow) (j : ℕ) (s : Spelt (Opens L row r) bytes i j) → Stops head_byte bytes j → Opens L row r (between bytes i j) → Finds tables bytes (λ r. r) (Unit {0}) (and_then (read_name bytes i) (opening m row i)) r j
@@ -138,18 +138,18 @@ module _ (tables : Sizes) (bytes : List ℕ) where
           finds_then tables bytes (λ r. r) (Unit {0}) r j (opening m row i)
           ((name_agrees tables bytes).complete i x.0 d.0 (spelt_as (λ w h. (x.1, h)) d.1) tt ends) (λ m. m)
           (λ a _ is.
-            subst (λ o. Finds tables bytes (λ r. r) (Unit {0}) o r j) (sym (cond-true _ _ _ (byte_stands bytes 33 (omega arith) d.2) ∙ (λ k. m i (is k) bytes (to k))))
-            ((agrees i x.0).complete c.0 r j c.2 tt stop))
+          subst (λ o. Finds tables bytes (λ r. r) (Unit {0}) o r j) (sym (cond-true _ _ _ (byte_stands bytes 33 (omega arith) d.2) ∙ (λ k. m i (is k) bytes (to k))))
+          ((agrees i x.0).complete c.0 r j c.2 tt stop))
       opens_complete i r j s stop (inr x) =
           let w = between bytes i j in
           let no_bang : stands 33 bytes j ≡ false = stands_byte 33 (omega arith) bytes j ∙ (or_parts (name_byte (byte bytes j)) (eqb (byte bytes j) 33) stop).1 in
           finds_then tables bytes (λ r. r) (Unit {0}) r j (opening m row i)
           ((name_agrees tables bytes).complete i w j (record { forward = s.forward; within = s.within; belongs = (x.2.1, refl) }) tt (head_no_name (byte bytes j) stop)) (λ m. m)
           (λ a _ is. found r
-            (cond-false _ _ _ no_bang
-              ∙ ap (λ o. and_then o (λ v k. got (row v) k)) (known_found tables bytes sc once a x.0 j w x.2.0 is)
-              ∙ ap (λ r. got r j) x.1)
-            refl)
+          (cond-false _ _ _ no_bang
+          ∙ ap (λ o. and_then o (λ v k. got (row v) k)) (known_found tables bytes sc once a x.0 j w x.2.0 is)
+          ∙ ap (λ r. got r j) x.1)
+          refl)
 
       pub opens_agrees : Agrees tables bytes (λ bytes i. and_then (read_name bytes i) (λ s j. cond (stands 33 bytes j) (m i (slice bytes s) bytes (j + 1)) (and_then (known sc bytes s j) (λ v k. got (row v) k)))) (λ r. r) (plain (Opens L row)) (Stops head_byte bytes)
       opens_agrees = record {
@@ -165,8 +165,8 @@ module _ (tables : Sizes) (bytes : List ℕ) where
     listed_as f =
         weaken tables bytes (Stops head_byte bytes) (λ j. head_no_name (byte bytes j))
         (after_agrees tables bytes (gap_agrees tables bytes)
-          (image_agrees tables bytes f (λ r. r) f (λ t r. Unit {0}) (listed_agrees tables bytes sc once) (λ v. refl) (λ t b n. n) (λ t b n. n))
-          (λ r i j s stop. variable_stops s.belongs.0 (spelt_as {Q = Variable sc s.belongs.0} (λ w h. h) (record { forward = s.forward; within = s.within; belongs = s.belongs.2.1 }))))
+        (image_agrees tables bytes f (λ r. r) f (λ t r. Unit {0}) (listed_agrees tables bytes sc once) (λ v. refl) (λ t b n. n) (λ t b n. n))
+        (λ r i j s stop. variable_stops s.belongs.0 (spelt_as {Q = Variable sc s.belongs.0} (λ w h. h) (record { forward = s.forward; within = s.within; belongs = s.belongs.2.1 }))))
 
     abbrev constant : ℤ → UnitRow
     constant z = Constant z
@@ -178,8 +178,8 @@ module _ (tables : Sizes) (bytes : List ℕ) where
     constant_agrees =
         weaken tables bytes (Stops head_byte bytes) (λ j. head_no_digit (byte bytes j))
         (after_agrees tables bytes (gap_agrees tables bytes)
-          (image_agrees tables bytes constant (λ r. r) constant (λ t r. Unit {0}) (number_agrees tables bytes) (λ v. refl) (λ t b n. n) (λ t b n. n))
-          (λ r i j s stop. number_stops s.belongs.0 (record { forward = s.forward; within = s.within; belongs = s.belongs.2 })))
+        (image_agrees tables bytes constant (λ r. r) constant (λ t r. Unit {0}) (number_agrees tables bytes) (λ v. refl) (λ t b n. n) (λ t b n. n))
+        (λ r i j s stop. number_stops s.belongs.0 (record { forward = s.forward; within = s.within; belongs = s.belongs.2 })))
 
     -- after `defined!`
     abbrev NewL : Bool → UnitRow → Language
@@ -202,10 +202,10 @@ module _ (tables : Sizes) (bytes : List ℕ) where
     opens_stops L row r {i = i} {j = j} s =
         ⊎_elim
         (λ x.
-          let s₀ : Spelt (Just (x.0 ++ codes "!") ⊙ L x.0 r) bytes i j = record { forward = s.forward; within = s.within; belongs = x.2 } in
-          let c = parts s₀ in
-          let s₁ : Spelt (Just x.0 ⊙ Just (codes "!")) bytes i c.0 = spelt_as (λ w h. (x.0, codes "!", refl, refl, h)) c.1 in
-          letter_no_separator (byte bytes i) (begins bytes letter refl (λ w h. ap (λ w. letter (get_or w 0 0)) h ∙ word_first x.0 x.1.0) (parts s₁).1))
+        let s₀ : Spelt (Just (x.0 ++ codes "!") ⊙ L x.0 r) bytes i j = record { forward = s.forward; within = s.within; belongs = x.2 } in
+        let c = parts s₀ in
+        let s₁ : Spelt (Just x.0 ⊙ Just (codes "!")) bytes i c.0 = spelt_as (λ w h. (x.0, codes "!", refl, refl, h)) c.1 in
+        letter_no_separator (byte bytes i) (begins bytes letter refl (λ w h. ap (λ w. letter (get_or w 0 0)) h ∙ word_first x.0 x.1.0) (parts s₁).1))
         (λ x. variable_stops x.0 (record { forward = s.forward; within = s.within; belongs = x.2 }))
         s.belongs
 
@@ -274,9 +274,23 @@ module _ (tables : Sizes) (bytes : List ℕ) where
         let y = h.3 in
         let z = y.3 in
         let t = z.3 in
-        inl (codes "defined", name_by (codes "defined") refl, (h.0, h.1, h.2, (y.0, y.1, y.2,
-          inl (codes "new", name_by (codes "new") refl, (z.0, z.1, z.2, (t.0, t.1, t.2, (v, refl, t.3), t.4), z.4)),
-          y.4), h.4))
+        inl (
+          codes "defined",
+          name_by (codes "defined") refl,
+          (
+            h.0,
+            h.1,
+            h.2,
+            (
+              y.0,
+              y.1,
+              y.2,
+              inl (codes "new", name_by (codes "new") refl, (z.0, z.1, z.2, (t.0, t.1, t.2, (v, refl, t.3), t.4), z.4)),
+              y.4,
+            ),
+            h.4,
+          ),
+        )
 
     row_back : (r : UnitRow) (w : List ℕ) → Leader sc r w → RowL r w
     row_back (Constant z) w h =

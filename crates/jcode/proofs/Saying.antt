@@ -215,7 +215,7 @@ module _ (tables : Sizes) (bytes : List ℕ) (sc : Scope) where
         complete = λ i s j h n stop.
             let c = word_read s h in
             let same : read_sentence sc tables.rows r false used bytes i ≡ by_verb sc tables.rows used (kind s) bytes c.0 =
-                then_step (by_word false i) c.3 ∙ ap (λ o. by_found sc tables.rows used r false i o bytes c.0) (ap verb_of c.4 ∙ found_verb (kind s)) in
+            then_step (by_word false i) c.3 ∙ ap (λ o. by_found sc tables.rows used r false i o bytes c.0) (ap verb_of c.4 ∙ found_verb (kind s)) in
             subst (λ o. Finds tables bytes told (length (rows_of s) ≤ tables.rows - used) o s j) (sym same)
             (needs_as s (Finds tables bytes told) ((verb_agrees tables bytes sc once used (kind s)).complete c.0 s j c.1 (of_needs (kind s) s limits n) stop));
       }
@@ -345,7 +345,7 @@ module _ (tables : Sizes) (bytes : List ℕ) (sc : Scope) where
   statements_whole =
       repeated_ends bytes goes_on (λ full seen. read_sentence sc tables.rows (full_by tables.statements 200) full (length (rows_all seen))) (λ seen bytes at. and_then (read_finish bytes at) (λ _ i. got seen i)) Sep
       (λ seen i all j e.
-        let t = then_got (read_finish bytes i) (λ _ i. got seen i) e in
-        let u = then_got (read_keyword (codes "END") bytes i) (λ _ i. read_end bytes i) t.2 in
-        subst Sep (got_next t.3) (white_whole tables bytes 10 u.1 u.3))
+      let t = then_got (read_finish bytes i) (λ _ i. got seen i) e in
+      let u = then_got (read_keyword (codes "END") bytes i) (λ _ i. read_end bytes i) t.2 in
+      subst Sep (got_next t.3) (white_whole tables bytes 10 u.1 u.3))
       (λ seen i a j e. sentence_refused (length (rows_all seen)) (full_by tables.statements 200) i a j e)

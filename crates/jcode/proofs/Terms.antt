@@ -112,9 +112,9 @@ module _ (tables : Sizes) (bytes : List ℕ) where
               let guarded : read_open (suc k) tables.rows used bytes i ≡ cond (leb tables.rows used) (refuse Table i) (got tt c.0) = then_step (guard i) opened ∙ cond-false _ _ _ (ne_eqb (suc k) 0 (λ e. omega arith)) ∙ cond-false _ _ _ (lt-leb 2000 used n) in
               ⊎_elim
               (λ h.
-                let same : and_then (read_open (suc k) tables.rows used bytes i) rest ≡ inner bytes i =
-                    ap (λ o. and_then o rest) (guarded ∙ cond-false _ _ _ (lt-leb tables.rows used h)) ∙ sym (then_step rest opened) in
-                subst (λ o. Finds tables bytes (λ r. r) (used < tables.rows) o r j) (sym same) (some (inner_agrees.complete i r j s tt stop)))
+              let same : and_then (read_open (suc k) tables.rows used bytes i) rest ≡ inner bytes i =
+              ap (λ o. and_then o rest) (guarded ∙ cond-false _ _ _ (lt-leb tables.rows used h)) ∙ sym (then_step rest opened) in
+              subst (λ o. Finds tables bytes (λ r. r) (used < tables.rows) o r j) (sym same) (some (inner_agrees.complete i r j s tt stop)))
               (λ h. short i (ap (λ o. and_then o rest) (guarded ∙ cond-true _ _ _ (le-leb tables.rows used h))) (λ m. omega arith))
               (cases_lt used tables.rows);
         }
@@ -129,10 +129,10 @@ module _ (tables : Sizes) (bytes : List ℕ) where
           sound = λ i rs j l e.
               let is = got_what e in
               record {
-            spelt = subst (Spelt (Operands (Term sc k) 0 first rs) bytes i) (got_next e) (spelt_none (Operands (Term sc k) 0 first rs) i l (sym is, refl));
-            keeps = omega (arith, ap length is);
-            fits = omega (arith, ap length is);
-          };
+                spelt = subst (Spelt (Operands (Term sc k) 0 first rs) bytes i) (got_next e) (spelt_none (Operands (Term sc k) 0 first rs) i l (sym is, refl));
+                keeps = omega (arith, ap length is);
+                fits = omega (arith, ap length is);
+              };
           complete = λ i rs j s _ stop.
               let same : i ≡ j = (let f = s.forward in omega (arith, length_between bytes i j s.within, ap length s.belongs.1)) in
               found rs (λ k. got (sym s.belongs.0 k) (same k)) refl;
@@ -141,14 +141,14 @@ module _ (tables : Sizes) (bytes : List ℕ) where
             same_agrees tables bytes (read_operands (read_term sc tables.rows k) (suc n) first used)
             (λ i. operands_step (read_lead first bytes i) (read_term sc tables.rows k used bytes) (λ a j. read_operands (read_term sc tables.rows k) n false (used + length a) bytes j))
             (renamed tables bytes (record { spells = Operands (Term sc k) (suc n) first; needs = Few used })
-              (λ rs w h. (h.0.0, h.0.1, sym h.1, h.2)) (λ rs w h. ((h.0, h.1), sym h.2, h.3)) (λ t rs m. m) (λ t rs m. m)
-              (image_agrees tables bytes (λ p. p.0 ++ p.1) (λ rs. rs) (λ p. p.0 ++ p.1) (Few used)
-                (after_agrees tables bytes (lead_agrees first)
-                  (pair_agrees tables bytes (λ a. record { spells = Operands (Term sc k) n false; needs = Few (used + length a) }) (rec used) (λ a _. operands_agrees n false (used + length a)) (λ a _ rs i j s stop. tt))
-                  (λ p i j s stop. term_stops k p.0 (parts s).1))
-                (λ p. refl)
-                (λ t p m. let a = m.0 in let b = m.1 in omega (arith, length-append p.0 p.1))
-                (λ t p m. let e = length-append p.0 p.1 in (omega arith, omega arith))))
+            (λ rs w h. (h.0.0, h.0.1, sym h.1, h.2)) (λ rs w h. ((h.0, h.1), sym h.2, h.3)) (λ t rs m. m) (λ t rs m. m)
+            (image_agrees tables bytes (λ p. p.0 ++ p.1) (λ rs. rs) (λ p. p.0 ++ p.1) (Few used)
+            (after_agrees tables bytes (lead_agrees first)
+            (pair_agrees tables bytes (λ a. record { spells = Operands (Term sc k) n false; needs = Few (used + length a) }) (rec used) (λ a _. operands_agrees n false (used + length a)) (λ a _ rs i j s stop. tt))
+            (λ p i j s stop. term_stops k p.0 (parts s).1))
+            (λ p. refl)
+            (λ t p m. let a = m.0 in let b = m.1 in omega (arith, length-append p.0 p.1))
+            (λ t p m. let e = length-append p.0 p.1 in (omega arith, omega arith))))
 
       -- after a row its operands or the closing bracket
       operands_stop : (k n : ℕ) (rs : List UnitRow) {i j : ℕ} → Spelt (Operands (Term sc k) n true rs ⊙ Close) bytes i j → Stops head_byte bytes i
@@ -175,14 +175,14 @@ module _ (tables : Sizes) (bytes : List ℕ) where
           same_agrees tables bytes (read_term sc tables.rows (suc k) used)
           (λ i. whole_step (read_begin sc (suc k) tables.rows used bytes i) (λ r j. read_operands (read_term sc tables.rows k) (operands_after r) true (used + 1) bytes j) (read_close bytes))
           (renamed tables bytes (terms sc (suc k) used) there back (λ t rs m. m) (λ t rs m. m)
-            (image_agrees tables bytes (λ p. p.0 ∷ p.1) (λ rs. rs) (λ p. p.0 ∷ p.1) (Few used)
-              (pair_agrees tables bytes (λ r. behind (record { spells = Operands (Term sc k) (operands_after r) true; needs = Few (used + 1) }) Close)
-                (begin_agrees k used)
-                (λ r _. before_agrees tables bytes (operands_agrees k (term_agrees k) (operands_after r) true (used + 1)) close_agrees (λ b i j s stop. tt))
-                (λ r _ rs i j s stop. operands_stop k (operands_after r) rs s))
-              (λ p. refl)
-              (λ t p m. let a = m.0 in let b = m.1 in omega arith)
-              (λ t p m. (omega arith, omega arith))))
+          (image_agrees tables bytes (λ p. p.0 ∷ p.1) (λ rs. rs) (λ p. p.0 ∷ p.1) (Few used)
+          (pair_agrees tables bytes (λ r. behind (record { spells = Operands (Term sc k) (operands_after r) true; needs = Few (used + 1) }) Close)
+          (begin_agrees k used)
+          (λ r _. before_agrees tables bytes (operands_agrees k (term_agrees k) (operands_after r) true (used + 1)) close_agrees (λ b i j s stop. tt))
+          (λ r _ rs i j s stop. operands_stop k (operands_after r) rs s))
+          (λ p. refl)
+          (λ t p m. let a = m.0 in let b = m.1 in omega arith)
+          (λ t p m. (omega arith, omega arith))))
         where
           there : (rs : List UnitRow) (w : List ℕ) → (p : UnitRow × List UnitRow) × (p.0 ∷ p.1 ≡ rs) × (Began p.0 ⊙ Operands (Term sc k) (operands_after p.0) true p.1 ⊙ Close) w → Term sc (suc k) rs w
           there rs w h = subst (λ rs. Term sc (suc k) rs w) h.1 (under regroup w (regroup w h.2))

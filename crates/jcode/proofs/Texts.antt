@@ -52,8 +52,8 @@ text_plain (b ∷ s) =
     let h = text_plain s in
     ⊎_elim
     (λ e. let r : text_len (b ∷ s) ≡ suc (text_len s) = cond-true _ _ _ e ∙ one-add _ in
-      let q = and_parts _ _ e in
-      subst P (sym r) (and_from _ _ q.0 h.0, (open_front b s (text_len s) (not-true _ q.1), h.1)))
+    let q = and_parts _ _ e in
+    subst P (sym r) (and_from _ _ q.0 h.0, (open_front b s (text_len s) (not-true _ q.1), h.1)))
     (λ e. let r : text_len (b ∷ s) ≡ 0 = cond-false _ _ _ e in subst P (sym r) (refl, tt))
     (cases_Bool (goes_on (b ∷ s)))
 
@@ -112,7 +112,7 @@ module _ (tables : Sizes) (bytes : List ℕ) where
         let to : i + (j - i) ≡ j = omega arith in
         let rest : drop j bytes ≡ 47 ∷ (41 ∷ drop 2 (drop j bytes)) = sym (take-append-drop 2 (drop j bytes)) ∙ ap (λ u. u ++ drop 2 (drop j bytes)) stop in
         let whole : drop i bytes ≡ t ++ 47 ∷ (41 ∷ drop 2 (drop j bytes)) =
-            sym (take-append-drop (j - i) (drop i bytes)) ∙ (λ k. h.1 k ++ (drop-drop (j - i) i bytes ∙ ap (λ m. drop m bytes) to ∙ rest) k) in
+        sym (take-append-drop (j - i) (drop i bytes)) ∙ (λ k. h.1 k ++ (drop-drop (j - i) i bytes ∙ ap (λ m. drop m bytes) to ∙ rest) k) in
         let len : n i ≡ length t = run_is i ∙ ap text_len whole ∙ text_is t (drop 2 (drop j bytes)) h.0.0 h.0.1 in
         let most = h.0.2 in
         let next : i + n i ≡ j = omega (arith, length_between bytes i j s.within, ap length h.1) in
@@ -124,8 +124,8 @@ module _ (tables : Sizes) (bytes : List ℕ) where
   text_agrees =
       after_agrees tables bytes (mark_agrees tables bytes (codes "(/"))
       (before_agrees tables bytes inner_agrees (mark_agrees tables bytes (codes "/)"))
-        (λ b i j s stop.
-          let f = s.forward in
-          let two : j - i ≡ 2 = omega (arith, length_between bytes i j s.within, ap length s.belongs) in
-          ap (λ n. take n (drop i bytes)) (sym two) ∙ s.belongs))
+      (λ b i j s stop.
+      let f = s.forward in
+      let two : j - i ≡ 2 = omega (arith, length_between bytes i j s.within, ap length s.belongs) in
+      ap (λ n. take n (drop i bytes)) (sym two) ∙ s.belongs))
       (λ b i j s stop. tt)

@@ -32,10 +32,10 @@ index_back w names v once e =
     let l = slice_get_within names v w e in
     let here : get_or names v w ≡ w = get_or_from_slice_get names v w w e in
     let first = position_or_len_is (same_word w) names v w (omega arith)
-        (λ k h. false_from_ne_true (same_word w (get_or names k w)) (λ t.
-          both_ways (same_word (get_or names k w) (get_or names v w)) (apart_from_distinct same_word names k v w once h l)
-          (ap (same_word (get_or names k w)) (here ∙ same_words w (get_or names k w) t) ∙ same_refl (get_or names k w))))
-        (λ _. ap (same_word w) here ∙ same_refl w) in
+    (λ k h. false_from_ne_true (same_word w (get_or names k w)) (λ t.
+    both_ways (same_word (get_or names k w) (get_or names v w)) (apart_from_distinct same_word names k v w once h l)
+    (ap (same_word (get_or names k w)) (here ∙ same_words w (get_or names k w) t) ∙ same_refl (get_or names k w))))
+    (λ _. ap (same_word w) here ∙ same_refl w) in
     ap (λ n. cond (ltb n (length names)) (Some n) None) first ∙ cond-true _ _ _ (lt-ltb v (length names) l)
 
 found_got : (at : ℕ) (o : Option ℕ) (j : ℕ) {v k : ℕ} → found_at at o j ≡ got v k → (o ≡ Some v) × (j ≡ k)
@@ -70,6 +70,6 @@ module _ (tables : Sizes) (bytes : List ℕ) (sc : Scope) where
     listed_agrees =
         spelling tables bytes (λ v. member v sc.listed ≡ true)
         (kept_agrees tables bytes (λ v. member v sc.listed ≡ true) (λ i v j. cond (member v sc.listed) (got v j) (refuse Unknown i))
-          (λ i v j l e h. cond-true _ _ _ h)
-          (λ i v j l e c k h. let u = when_got (member v sc.listed) (got v j) _ h in (u.1, u.0))
-          variable_agrees)
+        (λ i v j l e h. cond-true _ _ _ h)
+        (λ i v j l e c k h. let u = when_got (member v sc.listed) (got v j) _ h in (u.1, u.0))
+        variable_agrees)

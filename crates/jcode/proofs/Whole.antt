@@ -38,8 +38,8 @@ module _ (t : Tables) (bytes : List ℕ) where
   heading_agrees =
       after_agrees sizes bytes (keyword_agrees sizes bytes (codes "BEGIN") refl)
       (after_agrees sizes bytes (gap_agrees sizes bytes)
-        (before_agrees sizes bytes (name_agrees sizes bytes) (end_agrees sizes bytes) (λ b i j s stop. separator_no_name (byte bytes i) (white_begins bytes 10 refl s)))
-        (λ n i j s stop. let c = parts s in letter_no_separator (byte bytes i) (begins bytes letter refl (λ w h. ap (λ w. letter (get_or w 0 0)) h.1 ∙ word_first n h.0.0) c.1)))
+      (before_agrees sizes bytes (name_agrees sizes bytes) (end_agrees sizes bytes) (λ b i j s stop. separator_no_name (byte bytes i) (white_begins bytes 10 refl s)))
+      (λ n i j s stop. let c = parts s in letter_no_separator (byte bytes i) (begins bytes letter refl (λ w h. ap (λ w. letter (get_or w 0 0)) h.1 ∙ word_first n h.0.0) c.1)))
       (λ n i j s stop. separator_no_name (byte bytes i) (white_begins bytes 32 refl (parts s).1))
 
   names_in : (vs : List Variable) → map (name_in bytes) vs ≡ names_of (map (declared_in bytes) vs)
@@ -79,30 +79,37 @@ module _ (t : Tables) (bytes : List ℕ) where
       (λ u w h. (h.0, ((u.name, (u.variables, u.statements)), refl, h.1)))
       (λ t u n. n) (λ t u n. n)
       (spelling sizes bytes {P = image unit_of_parts (both (plain Heading) (λ _. rest)) Within} IsOnce
-        (image_agrees sizes bytes located (unit_in bytes) unit_of_parts (λ t u. IsOnce u × Within t u)
-          (pair_agrees sizes bytes (λ _. rest) heading_agrees (λ s _. rest_agrees) (λ n _ p i j s stop. begin p s stop))
-          (λ p. refl)
-          (λ t p n. (n.1.0.1, record { variables = n.1.0.0; statements = n.1.1.0; rows = n.1.1.1 }))
-          (λ t p n. (tt, ((n.1.variables, n.0), (n.1.statements, n.1.rows))))))
+      (image_agrees sizes bytes located (unit_in bytes) unit_of_parts (λ t u. IsOnce u × Within t u)
+      (pair_agrees sizes bytes (λ _. rest) heading_agrees (λ s _. rest_agrees) (λ n _ p i j s stop. begin p s stop))
+      (λ p. refl)
+      (λ t p n. (n.1.0.1, record { variables = n.1.0.0; statements = n.1.1.0; rows = n.1.1.1 }))
+      (λ t p n. (tt, ((n.1.variables, n.0), (n.1.statements, n.1.rows))))))
     where
       begin : (p : List Declared × List (Sentence (List ℕ))) {i j : ℕ} → Spelt (Declarations p.0 ⊙ Statements (scope_with p.0) p.1) bytes i j → Sep j → Sep i
       begin p s stop = let c = parts s in declarations_begin sizes bytes p.0 c.1 (statements_begin sizes bytes (scope_with p.0) p.1 c.2 stop)
 
-  -- a unit begins within the bytes, and its last separators are taken whole
-  pub unit_ends : (i : ℕ) (u : Located) (j : ℕ) → read_unit t bytes i ≡ got u j → (i < length bytes) × Sep j
+  -- a word stands within the bytes
+  heading_within : (i : ℕ) (s : Span) (j : ℕ) → read_heading bytes i ≡ got s j → i < length bytes
   unfolding read_heading
+  heading_within i s j e =
+      let k = then_got (read_keyword (codes "BEGIN") bytes i) (λ _ i. (read_gap ▷ (read_name ◁ read_end)) bytes i) e in
+      let w = then_got (read_word bytes i) (λ s j. cond (same_word (slice bytes s) (codes "BEGIN")) (got tt j) (refuse Missing i)) k.2 in
+      let first = (word_is sizes bytes w.2).0 in
+      ⊎_elim
+      (λ h. h)
+      (λ h. absurd (both_ways (letter 0) refl (ap letter (sym (get_or_past bytes i 0 h)) ∙ first)))
+      (cases_lt i (length bytes))
+
+  -- the last separators are taken whole
+  rest_whole : (i : ℕ) (p : List Variable × List (Sentence Span)) (j : ℕ) → read_rest t bytes i ≡ got p j → Sep j
+  rest_whole i p j e =
+      let c = then_got (read_declarations (length t.variables) (min (length t.variables) 32) [] bytes i) (λ vs i. and_then (read_body t vs bytes i) (λ ss j. got (vs, ss) j)) e in
+      let d = then_got (read_body t c.0 bytes c.1) (λ ss j. got (c.0, ss) j) c.3 in
+      subst Sep (got_next {a = (c.0, d.0)} {b = p} {j = d.1} d.3) (statements_whole sizes bytes (scope_in bytes c.0) (min (length t.statements) 200) [] c.1 d.0 d.1 d.2)
+
+  pub unit_ends : (i : ℕ) (u : Located) (j : ℕ) → read_unit t bytes i ≡ got u j → (i < length bytes) × Sep j
   unit_ends i u j e =
       let whole = then_got ((read_heading ⊗ λ _. read_rest t) bytes i) (λ p i. got (located p) i) e in
       let a = then_got (read_heading bytes i) (λ s i. and_then (read_rest t bytes i) (λ p j. got (s, p) j)) whole.2 in
       let b = then_got (read_rest t bytes a.1) (λ p j. got (a.0, p) j) a.3 in
-      let c = then_got (read_declarations (length t.variables) (min (length t.variables) 32) [] bytes a.1) (λ vs i. and_then (read_body t vs bytes i) (λ ss j. got (vs, ss) j)) b.2 in
-      let d = then_got (read_body t c.0 bytes c.1) (λ ss j. got (c.0, ss) j) c.3 in
-      let ends = statements_whole sizes bytes (scope_in bytes c.0) (min (length t.statements) 200) [] c.1 d.0 d.1 d.2 in
-      let k = then_got (read_keyword (codes "BEGIN") bytes i) (λ _ i. (read_gap ▷ (read_name ◁ read_end)) bytes i) a.2 in
-      let w = then_got (read_word bytes i) (λ s j. cond (same_word (slice bytes s) (codes "BEGIN")) (got tt j) (refuse Missing i)) k.2 in
-      let first = (word_is sizes bytes w.2).0 in
-      (⊎_elim
-        (λ h. h)
-        (λ h. absurd (both_ways (letter 0) refl (ap letter (sym (get_or_past bytes i 0 h)) ∙ first)))
-        (cases_lt i (length bytes)),
-        subst Sep (got_next d.3 ∙ got_next b.3 ∙ got_next whole.3) ends)
+      (heading_within i a.0 a.1 a.2, subst Sep (got_next {a = (a.0, b.0)} {b = whole.0} {j = b.1} b.3 ∙ got_next {a = located whole.0} {b = u} {j = whole.1} whole.3) (rest_whole a.1 b.0 b.1 b.2))

@@ -42,7 +42,7 @@ module _ (tables : Sizes) (bytes : List ℕ) where
       ⊎_elim
       (λ h. h)
       (λ h. let z : i + run name_byte bytes i ≡ i = omega arith in
-        absurd (both_ways (name_byte (byte bytes i)) (ap (λ k. name_byte (byte bytes k)) (sym z) ∙ front_stops name_byte bytes i refl) (or_left _ _ e)))
+      absurd (both_ways (name_byte (byte bytes i)) (ap (λ k. name_byte (byte bytes k)) (sym z) ∙ front_stops name_byte bytes i refl) (or_left _ _ e)))
       (cases_lt 0 (run name_byte bytes i))
 
   pub word_length : {i : ℕ} {s : Span} {j : ℕ} → i ≤ length bytes → read_word bytes i ≡ got s j → length (slice bytes s) ≡ s.length
@@ -82,11 +82,11 @@ module _ (tables : Sizes) (bytes : List ℕ) where
       short_words =
           spelling tables bytes (λ n. length n ≤ 32)
           (kept_agrees tables bytes (λ n. length n ≤ 32) (λ _ s j. short_enough s j)
-            (λ i a j l e h. cond-false _ _ _ (le-ltb 32 a.length (omega (arith, word_length l e))))
-            (λ i a j l e c k h. let u = unless_got (ltb 32 a.length) (got a j) _ h in
-              let m = ltb-false 32 a.length u.0 in
-              (u.1, omega (arith, word_length l e)))
-            word_agrees)
+          (λ i a j l e h. cond-false _ _ _ (le-ltb 32 a.length (omega (arith, word_length l e))))
+          (λ i a j l e c k h. let u = unless_got (ltb 32 a.length) (got a j) _ h in
+          let m = ltb-false 32 a.length u.0 in
+          (u.1, omega (arith, word_length l e)))
+          word_agrees)
 
   pub keyword_agrees : (k : List ℕ) → is_word k ≡ true → Agrees tables bytes (read_keyword k) (λ u. u) (mark (Just k)) (Stops name_byte bytes)
   keyword_agrees k word = record {
