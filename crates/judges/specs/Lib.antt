@@ -1,0 +1,5 @@
+pub mod Relays
+pub mod Passes
+pub mod Tries
+pub mod Keeping
+pub mod Passing
