@@ -3,3 +3,4 @@ pub mod Passes
 pub mod Tries
 pub mod Keeping
 pub mod Passing
+pub mod Trying

@@ -33,7 +33,7 @@ set_place : (p : ℕ) (o : Option ℕ) → is_place p o ≡ true → o ≡ Some 
 set_place p None e = absurd (let z : ◌≡◌ {A = ℕ} 0 1 = cc in omega arith)
 set_place p (Some q) e = ap Some (eqb-true q p e)
 
-set_by_at : (cs : List Cell) (i : ℕ) (c : Cell) → i < length cs → (slice_index_or cs i c).set_by ≡ set_by cs i
+pub set_by_at : (cs : List Cell) (i : ℕ) (c : Cell) → i < length cs → (slice_index_or cs i c).set_by ≡ set_by cs i
 set_by_at [] i c lt = absurd (omega arith)
 set_by_at (d ∷ cs) zero c lt = refl
 set_by_at (d ∷ cs) (suc i) c lt = set_by_at cs i c (omega arith)

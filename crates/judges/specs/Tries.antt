@@ -28,6 +28,10 @@ abbrev pub ascending : ℤ → ℕ → List ℤ
 ascending n zero = []
 ascending n (suc more) = n ∷ ascending (n +ℤ pos 1) more
 
+-- the numbers above n, up to a high that is no less
+abbrev pub above : ℤ → ℤ → List ℤ
+above n high = ascending (n +ℤ pos 1) (gap n high)
+
 abbrev pub is_inside : Cell → ℤ → Bool
 is_inside c n = int_le c.low n && int_le n c.high
 
@@ -37,7 +41,7 @@ top parts i c = cond (occurs parts i) c.high c.low
 
 -- the numbers that a cell takes after those of the lower cells: what the part that sets it says, if that is within its bounds, else all from its low to its top
 abbrev pub numbers : Condition → Option ℕ → Cell → List ℤ → List ℤ
-numbers s None c lower = ascending c.low (gap c.low (top s.parts (length lower) c) + 1)
+numbers s None c lower = c.low ∷ above c.low (top s.parts (length lower) c)
 numbers s (Some p) c lower = filter (is_inside c) (value (cell_in lower) (setting_term (part s p)) ∷ [])
 
 -- the tries that begin with the numbers of the lower cells, in ascending order, the lowest cell slowest
