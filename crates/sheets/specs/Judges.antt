@@ -1,5 +1,6 @@
 -- Judges: what a judge answers of each sheet, and the law that every judge keeps.
-use Rattle.std.specs.Prelude.{◌≡◌, ℕ, ◌+◌, ◌<◌, ◌⊎◌, List, ◌++◌, length, drop, replicate, ℤ, pos}
+use Rattle.std.specs.Prelude.{◌≡◌, ℕ, Bool, true, false, ◌&&◌, List, length, take, drop, replicate, ℤ, pos, nat_le}
+use Rattle.reckoning.specs.declared.mark.Mark.{Mark}
 use Rattle.sheets.specs.declared.judge.Answer.{Answer}
 use Rattle.sheets.specs.declared.judge.Answer.TheVariants.{Pass, Fail, Unsure}
 use Rattle.sheets.specs.Sheets.{Condition, Keeps}
@@ -20,3 +21,14 @@ abbrev pub Told : ℕ → Opinion → Answer → List ℤ → Type 0
 Told cells passed a begun = (a ≡ Pass) × (begun ≡ replicate cells (pos 0))
 Told cells (failed w) a begun = (a ≡ Fail) × (begun ≡ w) × (length w ≡ cells)
 Told cells unsure a begun = (a ≡ Unsure) × (begun ≡ replicate cells (pos 0))
+
+-- a valuation buffer has room for so many cells, and there are so many working marks
+abbrev pub has_room : ℕ → ℕ → List ℤ → List Mark → Bool
+has_room cells marks v w = nat_le cells (length v) && nat_le marks (length w)
+
+-- what a judge does that is asked with a valuation buffer and working marks: without room it is unsure and touches neither
+pub record Replied (o : Opinion) (cells marks : ℕ) (v : List ℤ) (w : List Mark) (a : Answer) (after : List ℤ) (left : List Mark) : Type 0 where
+  pub told : has_room cells marks v w ≡ true → Told cells o a (take cells after)
+  pub short : has_room cells marks v w ≡ false → (a ≡ Unsure) × (after ≡ v) × (left ≡ w)
+  pub rest : drop cells after ≡ drop cells v
+  pub working : length left ≡ length w

@@ -2,5 +2,7 @@
 #![tactic(auto)]
 
 pub mod cell;
+pub mod fault;
 pub mod judge;
 pub mod part;
+pub mod sheet;

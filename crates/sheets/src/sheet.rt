@@ -1,0 +1,58 @@
+// Sheets: the place of a sheet, which says the condition of one path.
+
+ghost use Rattle.std.specs.Prelude.{◌≡◌, true, length};
+ghost use Rattle.sheets.specs.Sheets.{condition_of};
+ghost use Rattle.sheets.specs.Tables.{fills, keeps};
+
+use super::cell::{Cell, CellRow};
+use super::part::Part;
+use terms::operator::Operator;
+use terms::row::Row;
+
+static FALSE: [CellRow; 1] = [Row::Operator(Operator::False)];
+
+static WHOLE: [Part; 1] = [Part { first: 0, rows: 1 }];
+
+// Rows, the parts that they write, and the cells that they mention. Who gets one asks nothing of who gave it: every sheet keeps the rules.
+#[derive(Clone, Copy, Debug, PartialEq, Eq)]
+pub struct Sheet<'a> {
+    rows: &'a [CellRow],
+    parts: &'a [Part],
+    cells: &'a [Cell],
+    ghost filled: { fills (length rows.now) 0 parts.now ≡ true },
+    ghost kept: { keeps (condition_of rows.now parts.now cells.now) ≡ true },
+}
+
+impl<'a> Sheet<'a> {
+    ghost use Rattle.sheets.specs.Places.{rows_in, parts_in, cells_in, says, false_alone, Filled};
+    ghost use Rattle.sheets.specs.Sheets.{part, set_by};
+
+    // `false!` alone, until tables fill it.
+    pub fn unfilled() -> Sheet<'a>
+        ensures { says result ≡ false_alone }
+    {
+        Sheet {
+            rows: &FALSE,
+            parts: &WHOLE,
+            cells: &[],
+        }
+    }
+
+    pub fn rows(&self) -> &'a [CellRow]
+        ensures { result.now ≡ rows_in self.now }
+    {
+        self.rows
+    }
+
+    pub fn parts(&self) -> &'a [Part]
+        ensures { result.now ≡ parts_in self.now }
+    {
+        self.parts
+    }
+
+    pub fn cells(&self) -> &'a [Cell]
+        ensures { result.now ≡ cells_in self.now }
+    {
+        self.cells
+    }
+}
