@@ -1,22 +1,19 @@
 -- What a sheet that keeps the rules says of a valuation.
-use Rattle.std.specs.Prelude.{◌≡◌, ℕ, zero, suc, ◌+◌, ◌<◌, Bool, true, false, cond, ◌&&◌, List, [], ◌∷◌, length, drop, ℤ, pos, ◌≤ℤ◌, Some, None, Option, int_le, slice_index_or, refl}
+use Rattle.std.specs.Prelude.{◌≡◌, ℕ, zero, suc, ◌+◌, ◌<◌, Bool, true, false, ◌&&◌, List, [], ◌∷◌, length, ℤ, pos, Some, None, Option, int_le, slice_index_or, refl}
 use Rattle.std.specs.List.{list_all, slice_get}
-use Rattle.std.specs.Option.{option_map}
 use Rattle.std.proofs.Common.{sym, ap, ◌∙◌, subst, arith}
 use Rattle.std.proofs.lemmas.Int.{ints}
 use Rattle.std.proofs.lemmas.Bool.{and_parts, true≢false}
 use Rattle.terms.specs.declared.kind.Kind.{Kind}
 use Rattle.terms.specs.declared.kind.Kind.TheVariants.{Number, Truth}
 use Rattle.terms.specs.declared.operator.Operator.TheVariants.{Equal}
-use Rattle.terms.specs.declared.row.Row.{Row}
-use Rattle.terms.specs.declared.row.Row.TheVariants.{Mention, Operator as Applied}
 use Rattle.terms.specs.Numbers.{same_number, truth}
 use Rattle.terms.specs.Terms.{fold, value}
-use Rattle.reckoning.specs.Kinds.{of_kind, alike, asked, is_kind, kinds_fit, kind_given, kinds, kind_of, IsKinded}
+use Rattle.reckoning.specs.Kinds.{of_kind, is_kind, kind_given, kinds, kind_of, IsKinded}
 use Rattle.reckoning.specs.Evaluation.{Kindly}
 use Rattle.sheets.specs.declared.cell.Cell.{Cell}
-use Rattle.sheets.specs.Sheets.{CellTerm, Condition, part, goal, cell_kind, set_by, is_bound, is_bounded, setting_term, Sets, is_true_term, Keeps}
-use Rattle.sheets.specs.Valuations.{cell_in, is_within, Within, GoalAloneFalse, Falsifies}
+use Rattle.sheets.specs.Sheets.{CellTerm, Condition, part, cell_kind, is_bound, is_bounded, setting_term, Sets, is_true_term, Keeps}
+use Rattle.sheets.specs.Valuations.{cell_in, Within, GoalAloneFalse}
 
 clash : {X : Type 0} → false ≡ true → X
 clash e = absurd (true≢false (sym e))

@@ -1,14 +1,15 @@
 -- The law of the pass, once for every reckoning.
-use Rattle.std.specs.Prelude.{◌≡◌, ℕ, zero, suc, ◌+◌, ◌<◌, Bool, true, List, [], ◌∷◌, length, map, drop, ℤ, pos, Some, None, Option, position, slice_index_or, slice_set, refl}
+use Rattle.std.specs.Prelude.{◌≡◌, ℕ, zero, suc, ◌+◌, ◌<◌, Bool, true, List, [], ◌∷◌, length, cond, false, map, drop, ℤ, pos, Some, None, Option, slice_index_or, slice_set, refl}
 use Rattle.std.specs.List.{slice_get}
 use Rattle.std.specs.Option.{option_map}
 use Rattle.std.proofs.Common.{sym, ap, ◌∙◌, subst, arith}
 use Rattle.std.proofs.lemmas.List.{drop_more, length-drop}
-use Rattle.std.proofs.lemmas.List.Quantifiers.{position-Some}
-use Rattle.std.proofs.lemmas.Option.{slice_get-map, slice_get-get_or}
+use Rattle.std.proofs.lemmas.Option.{slice_get-map}
 use Rattle.std.proofs.lemmas.Bool.{and_parts, eqb-true}
 use Rattle.terms.specs.declared.kind.Kind.{Kind}
 use Rattle.terms.specs.declared.kind.Kind.TheVariants.{Truth}
+use Rattle.terms.specs.declared.operator.Operator.TheVariants.{Equal}
+use Rattle.terms.specs.declared.row.Row.TheVariants.{Mention, Operator as Applied}
 use Rattle.terms.specs.Terms.{value}
 use Rattle.reckoning.specs.declared.mark.Mark.{Mark}
 use Rattle.reckoning.specs.declared.decision.Decision.{Decision}
@@ -22,7 +23,7 @@ use Rattle.reckoning.proofs.Mentioning.{mentions_all}
 use Rattle.sheets.specs.declared.cell.Cell.{Cell}
 use Rattle.sheets.specs.Sheets.{CellTerm, Condition, part, cell_kind, set_by, setting_term, Keeps}
 use Rattle.sheets.specs.Valuations.{cell_in, GoalAloneFalse, Falsifies}
-use Rattle.sheets.specs.Judges.{Opinion, passed, unsure, Sound}
+use Rattle.sheets.specs.Judges.{passed, Sound}
 use Rattle.judges.specs.Passes.{is_place, cell_set_by, bounds_mark, marked, unless_no, after_part, by_goal, pass_or, pass_from, pass}
 use Rattle.judges.specs.Keeping.{kindly, within_at, truth_part, setting_kind, set_value}
 
@@ -39,11 +40,13 @@ set_by_at (d ∷ cs) zero c lt = refl
 set_by_at (d ∷ cs) (suc i) c lt = set_by_at cs i c (omega arith)
 
 -- the cell that a part sets says so
-pub cell_is_set : (cs : List Cell) (p i : ℕ) → cell_set_by cs p ≡ Some i → set_by cs i ≡ Some p
-cell_is_set [] p i e = none i e
-cell_is_set (c ∷ cs) p i e =
-    let found = position-Some (λ d. is_place p d.set_by) (c ∷ cs) i c e in
-    sym (set_by_at (c ∷ cs) i c found.0) ∙ set_place p _ found.1
+pub cell_is_set : (cs : List Cell) (p i : ℕ) (e : CellTerm) → cell_set_by cs p e ≡ Some i → set_by cs i ≡ Some p
+cell_is_set cs p i (Applied Equal ∷ Mention j ∷ e) is = go (is_place p (set_by cs j)) refl is
+  where
+    go : (b : Bool) → is_place p (set_by cs j) ≡ b → cond b (Some j) None ≡ Some i → set_by cs i ≡ Some p
+    go true h is = let same : j ≡ i = cc in ap (set_by cs) (sym same) ∙ set_place p _ h
+    go false h is = none i is
+cell_is_set cs p i _ is = none i is
 
 -- what stands at a place after another is written
 after_set : (xs : List Mark) (i j : ℕ) (m k : Mark) (P : ℕ → Mark → Type 0) → (j ≡ i → m ≡ k → P i m) → (slice_get xs j ≡ Some k → P j k) → slice_get (slice_set xs i m) j ≡ Some k → P j k
@@ -84,7 +87,7 @@ module _ (covers : Mark → ℤ → Type 0) (r : Meaning) (laws : Lawful covers 
           let within = and_parts _ _ (within_at s.cells v f.0 i c at) in
           subst (λ k. covers k (cell_in v i)) same (laws.bounding c.low c.high (cell_in v i) (is_most _ _ within.0) (is_most _ _ within.1))
 
-  after : (p : ℕ) → p + 1 < length s.parts → value (cell_in v) (part s p) ≡ pos 1 → (o : Option ℕ) → cell_set_by s.cells p ≡ o → (marks : List Mark) → Told marks → Left (after_part r o (part s p) marks)
+  after : (p : ℕ) → p + 1 < length s.parts → value (cell_in v) (part s p) ≡ pos 1 → (o : Option ℕ) → cell_set_by s.cells p (part s p) ≡ o → (marks : List Mark) → Told marks → Left (after_part r o (part s p) marks)
   after p lt holds None at marks told = go (r.decided (marked r marks (part s p))) refl
     where
       go : (d : Decision) → r.decided (marked r marks (part s p)) ≡ d → Left (unless_no d marks)
@@ -98,7 +101,7 @@ module _ (covers : Mark → ℤ → Type 0) (r : Meaning) (laws : Lawful covers 
 
       here : covers (marked r marks term) (cell_in v i)
       here =
-          let sets = keeps.setting p i (cell_is_set s.cells p i at) in
+          let sets = keeps.setting p i (cell_is_set s.cells p i (part s p) at) in
           let kind = setting_kind s keeps p i sets in
           subst (covers (marked r marks term)) (set_value s p i sets (cell_in v) holds) (covered marks told term kind.0 kind.1)
 
@@ -130,8 +133,8 @@ module _ (covers : Mark → ℤ → Type 0) (r : Meaning) (laws : Lawful covers 
   never_passed p (e ∷ f ∷ es) at h marks told is =
       let t = at_place s.parts p e (f ∷ es) [] at in
       let lt : p + 1 < length s.parts = omega (arith, t.3) in
-      go (after_part r (cell_set_by s.cells p) e marks)
-      (subst (λ t. Left (after_part r (cell_set_by s.cells p) t marks)) (sym t.1) (after p lt (ap (value (cell_in v)) (sym t.1) ∙ h.0) (cell_set_by s.cells p) refl marks told))
+      go (after_part r (cell_set_by s.cells p e) e marks)
+      (subst (λ t. Left (after_part r (cell_set_by s.cells p t) t marks)) (sym t.1) (after p lt (ap (value (cell_in v)) (sym t.1) ∙ h.0) (cell_set_by s.cells p (part s p)) refl marks told))
       is (never_passed (p + 1) (f ∷ es) t.2 h.1)
     where
       go : (o : Option (List Mark)) → Left o → pass_or o (pass_from r s.cells (p + 1) (f ∷ es)) ≡ passed → ((marks : List Mark) → Told marks → pass_from r s.cells (p + 1) (f ∷ es) marks ≡ passed → ⊥) → ⊥

@@ -2,7 +2,6 @@
 use Rattle.std.specs.Prelude.{◌≡◌, ℕ}
 use Rattle.std.proofs.Common.{arith}
 use Rattle.sheets.specs.Sheets.{Condition}
-use Rattle.sheets.specs.Valuations.{Falsifies}
 use Rattle.sheets.specs.Judges.{Opinion, passed, failed, unsure, Sound}
 
 -- the first opinion, unless it is unsure

@@ -1,26 +1,23 @@
 -- The laws of the trier: it passes only what no valuation falsifies, and what it proposes falsifies.
-use Rattle.std.specs.Prelude.{◌≡◌, ℕ, zero, suc, ◌+◌, ◌<◌, ◌≤◌, ◌⊎◌, Bool, true, false, cond, ◌&&◌, ◌||◌, List, [], ◌∷◌, ◌++◌, length, take, drop, ℤ, pos, ◌+ℤ◌, ◌≤ℤ◌, Some, None, Option, ◌≢◌, find, filter, int_le, nat_le, nat_lt, slice_index_or, refl}
+use Rattle.std.specs.Prelude.{◌≡◌, ℕ, zero, suc, ◌<◌, ◌≤◌, ◌⊎◌, Bool, true, false, cond, ◌&&◌, List, [], ◌∷◌, ◌++◌, length, take, drop, ℤ, pos, ◌+ℤ◌, ◌≤ℤ◌, Some, None, Option, ◌≢◌, find, filter, int_le, slice_index_or, refl}
 use Rattle.std.specs.List.{flat_map, list_any, list_all, slice_get}
 use Rattle.std.specs.Option.{option_or}
 use Rattle.std.proofs.Common.{sym, ap, ◌∙◌, subst, inl, inr, arith}
 use Rattle.std.proofs.lemmas.Int.{ints, by_lt_z}
-use Rattle.std.proofs.lemmas.List.{length-append, append-nil, length-drop, take_all, take_more, length_push, get_or_append_left, get_or_push, get_or_past}
+use Rattle.std.proofs.lemmas.List.{length-drop, take_all, take_more, length_push, get_or_append_left, get_or_push, get_or_past}
 use Rattle.std.proofs.lemmas.Option.{slice_get-get_or}
 use Rattle.std.proofs.lemmas.List.Folds.{find-append}
-use Rattle.std.proofs.lemmas.Bool.{and_parts, and_from, or_left, or_right, or_cases, ltb-true, eqb-true, eq-eqb, cases_lt, true≢false, cond-true}
-use Rattle.terms.specs.declared.row.Row.{Row}
+use Rattle.std.proofs.lemmas.Bool.{and_parts, and_from, or_left, or_right, or_cases, ltb-true, eqb-true, eq-eqb, cases_lt, true≢false}
 use Rattle.terms.specs.declared.row.Row.TheVariants.{Constant, Mention, Operator as Applied}
-use Rattle.terms.specs.declared.operator.Operator.TheVariants.{Equal}
-use Rattle.terms.specs.Numbers.{same_number}
 use Rattle.terms.specs.Terms.{value}
 use Rattle.reckoning.specs.Evaluation.{Mentions}
 use Rattle.reckoning.specs.Comparing.{is_most}
 use Rattle.reckoning.proofs.Mentioning.{value_agrees}
 use Rattle.sheets.specs.declared.cell.Cell.{Cell}
 use Rattle.sheets.specs.Sheets.{CellTerm, Condition, part, set_by, setting_term, is_below, is_bound, is_bounded, Sets, Keeps}
-use Rattle.sheets.specs.Valuations.{cell_in, is_within, Within, GoalAloneFalse, Falsifies}
+use Rattle.sheets.specs.Valuations.{cell_in, Within, GoalAloneFalse, Falsifies}
 use Rattle.sheets.specs.Judges.{Opinion, passed, failed, unsure, Sound}
-use Rattle.judges.specs.Tries.{mentions, occurs, gap, ascending, above, is_inside, top, numbers, tries_from, ways, is_refuted, proposed, trier}
+use Rattle.judges.specs.Tries.{mentions, occurs, gap, ascending, above, is_inside, numbers, tries_from, is_refuted, proposed, trier}
 use Rattle.judges.specs.Keeping.{at_each, same_numbers, same_number_lem, within_length, within_at, set_value, part_true}
 use Rattle.judges.specs.Passing.{at_place, set_by_at}
 
