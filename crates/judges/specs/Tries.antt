@@ -5,6 +5,8 @@ use Rattle.terms.specs.declared.row.Row.{Row}
 use Rattle.terms.specs.declared.row.Row.TheVariants.{Constant, Mention, Operator as Applied}
 use Rattle.terms.specs.Numbers.{same_number}
 use Rattle.terms.specs.Terms.{value}
+use Rattle.reckoning.specs.declared.mark.Mark.{Mark}
+use Rattle.reckoning.specs.Ranges.{between}
 use Rattle.sheets.specs.declared.cell.Cell.{Cell}
 use Rattle.sheets.specs.Sheets.{CellTerm, Condition, part, setting_term}
 use Rattle.sheets.specs.Valuations.{cell_in}
@@ -35,13 +37,14 @@ above n high = ascending (n +ℤ pos 1) (gap n high)
 abbrev pub is_inside : Cell → ℤ → Bool
 is_inside c n = int_le c.low n && int_le n c.high
 
--- the high of what a cell that no part sets is tried with, from its low on: its own high if it occurs
-abbrev pub top : List CellTerm → ℕ → Cell → ℤ
-top parts i c = cond (occurs parts i) c.high c.low
+-- the greatest number that a cell is tried with: its high if no part sets it and it occurs, else its low
+abbrev pub top : List CellTerm → ℕ → Option ℕ → Cell → ℤ
+top parts i None c = cond (occurs parts i) c.high c.low
+top parts i (Some p) c = c.low
 
 -- the numbers that a cell takes after those of the lower cells: what the part that sets it says, if that is within its bounds, else all from its low to its top
 abbrev pub numbers : Condition → Option ℕ → Cell → List ℤ → List ℤ
-numbers s None c lower = c.low ∷ above c.low (top s.parts (length lower) c)
+numbers s None c lower = c.low ∷ above c.low (top s.parts (length lower) None c)
 numbers s (Some p) c lower = filter (is_inside c) (value (cell_in lower) (setting_term (part s p)) ∷ [])
 
 -- the tries that begin with the numbers of the lower cells, in ascending order, the lowest cell slowest
@@ -49,15 +52,15 @@ abbrev pub tries_from : Condition → List Cell → List ℤ → List (List ℤ)
 tries_from s [] lower = lower ∷ []
 tries_from s (c ∷ cs) lower = flat_map (λ n. tries_from s cs (lower ++ n ∷ [])) (numbers s c.set_by c lower)
 
--- how many numbers a cell is tried with
-abbrev pub width : List CellTerm → ℕ → Option ℕ → Cell → ℕ
-width parts i None c = gap c.low (top parts i c) + 1
-width parts i (Some p) c = 1
+-- from where to where each cell from i on is tried
+abbrev pub ranges : List CellTerm → ℕ → List Cell → List Mark
+ranges parts i [] = []
+ranges parts i (c ∷ cs) = between c.low (top parts i c.set_by c) ∷ ranges parts (i + 1) cs
 
--- in how many ways numbers of the cells from i on can be chosen
-abbrev pub ways : List CellTerm → ℕ → List Cell → ℕ
-ways parts i [] = 1
-ways parts i (c ∷ cs) = width parts i c.set_by c * ways parts (i + 1) cs
+-- in how many ways a number of each range can be chosen
+abbrev pub ways : List Mark → ℕ
+ways [] = 1
+ways (r ∷ rs) = (gap r.low r.high + 1) * ways rs
 
 -- every part but the last is true, and the last is false
 abbrev pub is_refuted : List ℤ → List CellTerm → Bool
@@ -71,4 +74,4 @@ proposed (Some v) = failed v
 
 -- the first try that falsifies is proposed; with more than 65536 ways none is tried
 abbrev pub trier : Condition → Opinion
-trier s = cond (nat_le (ways s.parts 0 s.cells) 65536) (proposed (find (λ v. is_refuted v s.parts) (tries_from s s.cells []))) unsure
+trier s = cond (nat_le (ways (ranges s.parts 0 s.cells)) 65536) (proposed (find (λ v. is_refuted v s.parts) (tries_from s s.cells []))) unsure
