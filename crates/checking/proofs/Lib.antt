@@ -4,3 +4,4 @@ pub mod Reading
 pub mod Flowing
 pub mod Ruling
 pub mod Telling
+pub mod Entries

@@ -25,7 +25,7 @@ pub struct Sheet<'a> {
 
 impl<'a> Sheet<'a> {
     ghost use Rattle.sheets.specs.Places.{rows_in, parts_in, cells_in, says, false_alone, Filled};
-    ghost use Rattle.sheets.specs.Sheets.{part, set_by};
+    ghost use Rattle.sheets.specs.Sheets.{part, cell_set};
 
     // `false!` alone, until tables fill it.
     pub fn unfilled() -> Sheet<'a>
@@ -54,5 +54,28 @@ impl<'a> Sheet<'a> {
         ensures { result.now ≡ cells_in self.now }
     {
         self.cells
+    }
+
+    // The rows of a part, none past the last.
+    pub fn part(&self, place: usize) -> &'a [CellRow]
+        ensures { result.now ≡ part (says self.now) place }
+    {
+        match self.parts.get(place) {
+            Some(part) => part.of(self.rows),
+            None => &[],
+        }
+    }
+
+    // The cell that a part sets, which its first two rows tell.
+    pub fn cell_set_by(&self, place: usize) -> Option<usize>
+        ensures { result ≡ cell_set (says self.now) place }
+    {
+        match self.part(place) {
+            [Row::Operator(Operator::Equal), Row::Mention(cell), ..] => {
+                let setter = self.cells.get(*cell)?.set_by?;
+                (setter == place).then_some(*cell)
+            }
+            _ => None,
+        }
     }
 }
