@@ -5,4 +5,5 @@ pub mod cell;
 pub mod fault;
 pub mod judge;
 pub mod part;
+pub mod setting;
 pub mod sheet;

@@ -6,6 +6,7 @@ ghost use Rattle.sheets.specs.Tables.{fills, keeps};
 
 use super::cell::{Cell, CellRow};
 use super::part::Part;
+use super::setting::first_cell;
 use terms::operator::Operator;
 use terms::row::Row;
 
@@ -25,7 +26,7 @@ pub struct Sheet<'a> {
 
 impl<'a> Sheet<'a> {
     ghost use Rattle.sheets.specs.Places.{rows_in, parts_in, cells_in, says, false_alone, Filled};
-    ghost use Rattle.sheets.specs.Sheets.{part, cell_set};
+    ghost use Rattle.sheets.specs.Sheets.{part, is_some_of, set_by, cell_set};
 
     // `false!` alone, until tables fill it.
     pub fn unfilled() -> Sheet<'a>
@@ -66,16 +67,18 @@ impl<'a> Sheet<'a> {
         }
     }
 
-    // The cell that a part sets, which its first two rows tell.
+    // Whether the cell is said to be set by the part.
+    fn is_set_by(&self, cell: usize, place: usize) -> bool
+        ensures { result ≡ is_some_of place (set_by (cells_in self.now) cell) }
+    {
+        self.cells.get(cell).and_then(|cell| cell.set_by) == Some(place)
+    }
+
+    // The cell that a part sets: the one that it begins with `equal!` of, if that is said to be set by it.
     pub fn cell_set_by(&self, place: usize) -> Option<usize>
         ensures { result ≡ cell_set (says self.now) place }
     {
-        match self.part(place) {
-            [Row::Operator(Operator::Equal), Row::Mention(cell), ..] => {
-                let setter = self.cells.get(*cell)?.set_by?;
-                (setter == place).then_some(*cell)
-            }
-            _ => None,
-        }
+        let cell = first_cell(self.part(place))?;
+        self.is_set_by(cell, place).then_some(cell)
     }
 }
