@@ -1,3 +1,4 @@
 mod Parts
 mod Replying
 mod Walking
+mod Numbers

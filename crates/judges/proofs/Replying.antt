@@ -7,10 +7,9 @@ use Rattle.reckoning.specs.declared.decision.Decision.{Decision}
 use Rattle.reckoning.specs.declared.decision.Decision.TheVariants.{Yes, No, Unknown}
 use Rattle.reckoning.specs.Reckonings.{Meaning}
 use Rattle.sheets.specs.declared.judge.Answer.{Answer}
-use Rattle.sheets.specs.declared.cell.Cell.{Cell}
-use Rattle.sheets.specs.Sheets.{CellTerm}
+use Rattle.sheets.specs.Sheets.{CellTerm, Condition, cell_set}
 use Rattle.sheets.specs.Judges.{Opinion, Told, has_room, Replied}
-use Rattle.judges.specs.Passes.{bounds_mark, marked, cell_set_by, after_part, by_goal, pass_or, pass_from, answer_of}
+use Rattle.judges.specs.Passes.{bounds_mark, marked, after_part, by_goal, pass_or, pass_from, pass, answer_of}
 
 -- the front of the valuation is told, and its rest stays
 pub replied : (o : Opinion) (cells marks : ℕ) (v : List ℤ) (w : List Mark) (a : Answer) (front : List ℤ) (left : List Mark) → has_room cells marks v w ≡ true → length front ≡ cells → Told cells o a front → length left ≡ length w → Replied o cells marks v w a (front ++ drop cells v) left
@@ -22,7 +21,7 @@ replied o cells marks v w a front left room long told same = record {
 }
 
 -- the pass proposes nothing
-module _ (r : Meaning) (cs : List Cell) (n : ℕ) where
+module _ (r : Meaning) (c : Condition) (n : ℕ) where
   abbrev Silent : Opinion → Type 0
   Silent o = Told n o (answer_of o) (replicate n (pos 0))
 
@@ -31,12 +30,12 @@ module _ (r : Meaning) (cs : List Cell) (n : ℕ) where
   goal_silent No = (refl, refl)
   goal_silent Unknown = (refl, refl)
 
-  pub silent : (p : ℕ) (es : List CellTerm) (marks : List Mark) → Silent (pass_from r cs p es marks)
+  pub silent : (p : ℕ) (es : List CellTerm) (marks : List Mark) → Silent (pass_from r c p es marks)
   silent p [] marks = (refl, refl)
   silent p (goal ∷ []) marks = goal_silent (r.decided (marked r marks goal))
-  silent p (e ∷ f ∷ es) marks = go (after_part r (cell_set_by cs p e) e marks) (silent (p + 1) (f ∷ es))
+  silent p (e ∷ f ∷ es) marks = go (after_part r (cell_set c p) e marks) (silent (p + 1) (f ∷ es))
     where
-      go : (o : Option (List Mark)) → ((ms : List Mark) → Silent (pass_from r cs (p + 1) (f ∷ es) ms)) → Silent (pass_or o (pass_from r cs (p + 1) (f ∷ es)))
+      go : (o : Option (List Mark)) → ((ms : List Mark) → Silent (pass_from r c (p + 1) (f ∷ es) ms)) → Silent (pass_or o (pass_from r c (p + 1) (f ∷ es)))
       go None rest = (refl, refl)
       go (Some ms) rest = rest ms
 
@@ -49,14 +48,13 @@ pub has_numbers : (cells marks : ℕ) (v : List ℤ) (w : List Mark) → has_roo
 has_numbers cells marks v w room = leb-true _ _ (and_parts _ _ room).0
 
 -- what the pass replies
-pub pass_replied : (r : Meaning) (cs : List Cell) (es : List CellTerm) (marks : ℕ) (v : List ℤ) (w : List Mark) (a : Answer) (front : List ℤ) (begun left : List Mark) (n : ℕ) → n ≡ length cs → has_room (length cs) marks v w ≡ true
-    → front ≡ replicate (length (take n v)) (pos 0) → begun ≡ map (bounds_mark r) cs → a ≡ answer_of (pass_from r cs 0 es begun) → length left ≡ length w
-    → Replied (pass_from r cs 0 es (map (bounds_mark r) cs)) (length cs) marks v w a (front ++ drop n v) left
-pass_replied r cs es marks v w a front begun left n count room filled start told same =
-    let o = pass_from r cs 0 es (map (bounds_mark r) cs) in
+pub pass_replied : (r : Meaning) (c : Condition) (marks : ℕ) (v : List ℤ) (w : List Mark) (a : Answer) (front : List ℤ) (begun left : List Mark) (n : ℕ) → n ≡ length c.cells → has_room (length c.cells) marks v w ≡ true
+    → front ≡ replicate (length (take n v)) (pos 0) → begun ≡ map (bounds_mark r) c.cells → a ≡ answer_of (pass_from r c 0 c.parts begun) → length left ≡ length w
+    → Replied (pass r c) (length c.cells) marks v w a (front ++ drop n v) left
+pass_replied r c marks v w a front begun left n count room filled start told same =
     let here : has_room n marks v w ≡ true = ap (λ k. has_room k marks v w) count ∙ room in
     let all = zeros n v front (has_numbers n marks v w here) filled in
-    let is : a ≡ answer_of o = told ∙ ap (λ m. answer_of (pass_from r cs 0 es m)) start in
-    subst (λ k. Replied o k marks v w a (front ++ drop n v) left) count
-    (replied o n marks v w a front left here (ap length all ∙ length-replicate n (pos 0))
-    (subst (Told n o a) (sym all) (subst (λ b. Told n o b (replicate n (pos 0))) (sym is) (silent r cs n 0 es (map (bounds_mark r) cs)))) same)
+    let is : a ≡ answer_of (pass r c) = told ∙ ap (λ m. answer_of (pass_from r c 0 c.parts m)) start in
+    subst (λ k. Replied (pass r c) k marks v w a (front ++ drop n v) left) count
+    (replied (pass r c) n marks v w a front left here (ap length all ∙ length-replicate n (pos 0))
+    (subst (Told n (pass r c) a) (sym all) (subst (λ b. Told n (pass r c) b (replicate n (pos 0))) (sym is) (silent r c n 0 c.parts (map (bounds_mark r) c.cells)))) same)

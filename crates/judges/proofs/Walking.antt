@@ -1,9 +1,9 @@
 -- The trier's way from try to try: each step ends one, and goes on from the lowest cell that turns.
-use Rattle.std.proofs.Common.{◌≡◌, ℕ, zero, suc, ◌+◌, ◌<◌, ◌≤◌, Bool, true, false, cond, List, [], ◌∷◌, ◌++◌, length, take, drop, get_or, set, ℤ, pos, ◌+ℤ◌, ◌≤ℤ◌, Some, None, Option, ◌≢◌, refl, sym, ap, ap₂, ◌∙◌, subst, add-one, append_assoc, arith}
-use Rattle.std.specs.Prelude.{find, int_le, int_lt}
+use Rattle.std.proofs.Common.{◌≡◌, ℕ, zero, suc, ◌+◌, ◌<◌, ◌≤◌, Bool, true, false, cond, List, [], ◌∷◌, ◌++◌, length, take, drop, get_or, set, ℤ, pos, ◌+ℤ◌, ◌≤ℤ◌, Some, None, Option, ◌≢◌, refl, sym, ap, ap₂, ◌∙◌, add-one, append_assoc, arith}
+use Rattle.std.specs.Prelude.{find, int_lt}
 use Rattle.std.specs.List.{flat_map}
 use Rattle.std.specs.Option.{option_or}
-use Rattle.std.proofs.lemmas.Int.{ints, by_lt_z}
+use Rattle.std.proofs.lemmas.Int.{ints}
 use Rattle.std.proofs.lemmas.List.{append-nil, drop_more, drop_all, take_all, take_more_set, take-set-le, length-take-le, get_or-set_same, get_or-set_other}
 use Rattle.std.proofs.lemmas.List.Folds.{find-append}
 use Rattle.std.proofs.lemmas.Bool.{cond-true, cond-false, cond_both, and_parts}
@@ -12,9 +12,9 @@ use Rattle.terms.specs.declared.kind.Kind.TheVariants.{Number}
 use Rattle.terms.specs.Terms.{value}
 use Rattle.reckoning.specs.declared.mark.Mark.{Mark}
 use Rattle.sheets.specs.declared.cell.Cell.{Cell}
-use Rattle.sheets.specs.Sheets.{CellTerm, Condition, part, setting_term}
+use Rattle.sheets.specs.Sheets.{Condition, part, setting_term}
 use Rattle.sheets.specs.Valuations.{cell_in}
-use Rattle.judges.specs.Tries.{gap, ascending, above, is_inside, top, numbers, tries_from, ranges, is_refuted}
+use Rattle.judges.specs.Tries.{gap, ascending, above, is_inside, top, numbers, tries_from, is_refuted}
 
 -- a try with all its numbers, or none where a set cell leaves its bounds
 abbrev pub Try : Type 0

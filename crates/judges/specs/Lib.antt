@@ -4,3 +4,4 @@ pub mod Tries
 pub mod Keeping
 pub mod Passing
 pub mod Trying
+pub mod Numbering

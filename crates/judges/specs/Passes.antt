@@ -1,28 +1,17 @@
 -- The pass: what a reckoning finds of a sheet, part by part.
-use Rattle.std.specs.Prelude.{◌≡◌, ℕ, ◌+◌, Bool, false, cond, List, [], ◌∷◌, map, Some, None, Option, ◌==◌, slice_index_or, slice_set}
+use Rattle.std.specs.Prelude.{◌≡◌, ℕ, ◌+◌, List, [], ◌∷◌, map, Some, None, Option, slice_index_or, slice_set}
 use Rattle.std.specs.List.{slice_get}
 use Rattle.std.specs.Option.{option_map}
-use Rattle.terms.specs.declared.operator.Operator.TheVariants.{Equal}
-use Rattle.terms.specs.declared.row.Row.TheVariants.{Mention, Operator as Applied}
 use Rattle.reckoning.specs.declared.mark.Mark.{Mark}
 use Rattle.reckoning.specs.declared.decision.Decision.{Decision}
 use Rattle.reckoning.specs.declared.decision.Decision.TheVariants.{Yes, No, Unknown}
 use Rattle.reckoning.specs.Reckonings.{Meaning}
 use Rattle.reckoning.specs.Evaluation.{mark_of}
 use Rattle.sheets.specs.declared.cell.Cell.{Cell}
-use Rattle.sheets.specs.Sheets.{CellTerm, Condition, set_by, setting_term}
+use Rattle.sheets.specs.Sheets.{CellTerm, Condition, cell_set, setting_term}
 use Rattle.sheets.specs.declared.judge.Answer.{Answer}
 use Rattle.sheets.specs.declared.judge.Answer.TheVariants.{Pass, Fail, Unsure}
 use Rattle.sheets.specs.Judges.{Opinion, passed, failed, unsure}
-
-abbrev pub is_place : ℕ → Option ℕ → Bool
-is_place p None = false
-is_place p (Some q) = q == p
-
--- the cell that a part sets, where it is `equal!` of a cell that says so
-abbrev pub cell_set_by : List Cell → ℕ → CellTerm → Option ℕ
-cell_set_by cs p (Applied Equal ∷ Mention i ∷ e) = cond (is_place p (set_by cs i)) (Some i) None
-cell_set_by cs p _ = None
 
 -- a cell starts at the mark of its bounds
 abbrev pub bounds_mark : Meaning → Cell → Mark
@@ -64,10 +53,10 @@ pass_or None go = passed
 pass_or (Some marks) go = go marks
 
 -- by the parts from the place p on, of which the last is the goal
-abbrev pub pass_from : Meaning → List Cell → ℕ → List CellTerm → List Mark → Opinion
-pass_from r cs p [] marks = unsure
-pass_from r cs p (goal ∷ []) marks = by_goal (r.decided (marked r marks goal))
-pass_from r cs p (e ∷ f ∷ es) marks = pass_or (after_part r (cell_set_by cs p e) e marks) (pass_from r cs (p + 1) (f ∷ es))
+abbrev pub pass_from : Meaning → Condition → ℕ → List CellTerm → List Mark → Opinion
+pass_from r c p [] marks = unsure
+pass_from r c p (goal ∷ []) marks = by_goal (r.decided (marked r marks goal))
+pass_from r c p (e ∷ f ∷ es) marks = pass_or (after_part r (cell_set c p) e marks) (pass_from r c (p + 1) (f ∷ es))
 
 abbrev pub pass : Meaning → Condition → Opinion
-pass r c = pass_from r c.cells 0 c.parts (map (bounds_mark r) c.cells)
+pass r c = pass_from r c 0 c.parts (map (bounds_mark r) c.cells)

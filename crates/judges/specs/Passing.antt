@@ -1,6 +1,7 @@
 -- The law of the pass, once for every reckoning.
-use Rattle.std.specs.Prelude.{◌≡◌, ℕ, zero, suc, ◌+◌, ◌<◌, Bool, true, List, [], ◌∷◌, length, cond, false, map, drop, ℤ, pos, Some, None, Option, slice_index_or, slice_set, refl}
-use Rattle.std.specs.List.{slice_get}
+use Rattle.std.specs.Prelude.{◌≡◌, ℕ, zero, suc, ◌+◌, ◌<◌, true, List, [], ◌∷◌, length, map, drop, ℤ, pos, Some, None, Option, slice_index_or, slice_set, refl}
+use Rattle.std.specs.List.{slice_get, position}
+use Rattle.std.proofs.lemmas.List.Quantifiers.{position-Some}
 use Rattle.std.specs.Option.{option_map}
 use Rattle.std.proofs.Common.{sym, ap, ◌∙◌, subst, arith}
 use Rattle.std.proofs.lemmas.List.{drop_more, length-drop}
@@ -8,8 +9,6 @@ use Rattle.std.proofs.lemmas.Option.{slice_get-map}
 use Rattle.std.proofs.lemmas.Bool.{and_parts, eqb-true}
 use Rattle.terms.specs.declared.kind.Kind.{Kind}
 use Rattle.terms.specs.declared.kind.Kind.TheVariants.{Truth}
-use Rattle.terms.specs.declared.operator.Operator.TheVariants.{Equal}
-use Rattle.terms.specs.declared.row.Row.TheVariants.{Mention, Operator as Applied}
 use Rattle.terms.specs.Terms.{value}
 use Rattle.reckoning.specs.declared.mark.Mark.{Mark}
 use Rattle.reckoning.specs.declared.decision.Decision.{Decision}
@@ -21,16 +20,16 @@ use Rattle.reckoning.specs.Evaluation.{Kindly, Covered}
 use Rattle.reckoning.proofs.Covering.{covering}
 use Rattle.reckoning.proofs.Mentioning.{mentions_all}
 use Rattle.sheets.specs.declared.cell.Cell.{Cell}
-use Rattle.sheets.specs.Sheets.{CellTerm, Condition, part, cell_kind, set_by, setting_term, Keeps}
+use Rattle.sheets.specs.Sheets.{CellTerm, Condition, part, cell_kind, set_by, is_some_of, is_set_by, cell_set, setting_term, Keeps}
 use Rattle.sheets.specs.Valuations.{cell_in, GoalAloneFalse, Falsifies}
 use Rattle.sheets.specs.Judges.{passed, Sound}
-use Rattle.judges.specs.Passes.{is_place, cell_set_by, bounds_mark, marked, unless_no, after_part, by_goal, pass_or, pass_from, pass}
+use Rattle.judges.specs.Passes.{bounds_mark, marked, unless_no, after_part, by_goal, pass_or, pass_from, pass}
 use Rattle.judges.specs.Keeping.{kindly, within_at, truth_part, setting_kind, set_value}
 
 none : {X A : Type 0} (x : A) → None ≡ Some x → X
 none x e = absurd (let z : ◌≡◌ {A = ℕ} 0 1 = cc in omega arith)
 
-set_place : (p : ℕ) (o : Option ℕ) → is_place p o ≡ true → o ≡ Some p
+set_place : (p : ℕ) (o : Option ℕ) → is_some_of p o ≡ true → o ≡ Some p
 set_place p None e = absurd (let z : ◌≡◌ {A = ℕ} 0 1 = cc in omega arith)
 set_place p (Some q) e = ap Some (eqb-true q p e)
 
@@ -40,13 +39,12 @@ set_by_at (d ∷ cs) zero c lt = refl
 set_by_at (d ∷ cs) (suc i) c lt = set_by_at cs i c (omega arith)
 
 -- the cell that a part sets says so
-pub cell_is_set : (cs : List Cell) (p i : ℕ) (e : CellTerm) → cell_set_by cs p e ≡ Some i → set_by cs i ≡ Some p
-cell_is_set cs p i (Applied Equal ∷ Mention j ∷ e) is = go (is_place p (set_by cs j)) refl is
+pub cell_is_set : (s : Condition) (p i : ℕ) → cell_set s p ≡ Some i → set_by s.cells i ≡ Some p
+cell_is_set s p i e = at s.cells e
   where
-    go : (b : Bool) → is_place p (set_by cs j) ≡ b → cond b (Some j) None ≡ Some i → set_by cs i ≡ Some p
-    go true h is = let same : j ≡ i = cc in ap (set_by cs) (sym same) ∙ set_place p _ h
-    go false h is = none i is
-cell_is_set cs p i _ is = none i is
+    at : (cs : List Cell) → position (is_set_by p) cs ≡ Some i → set_by cs i ≡ Some p
+    at [] e = none i e
+    at (c ∷ cs) e = let found = position-Some (is_set_by p) (c ∷ cs) i c e in sym (set_by_at (c ∷ cs) i c found.0) ∙ set_place p _ found.1
 
 -- what stands at a place after another is written
 after_set : (xs : List Mark) (i j : ℕ) (m k : Mark) (P : ℕ → Mark → Type 0) → (j ≡ i → m ≡ k → P i m) → (slice_get xs j ≡ Some k → P j k) → slice_get (slice_set xs i m) j ≡ Some k → P j k
@@ -87,7 +85,7 @@ module _ (covers : Mark → ℤ → Type 0) (r : Meaning) (laws : Lawful covers 
           let within = and_parts _ _ (within_at s.cells v f.0 i c at) in
           subst (λ k. covers k (cell_in v i)) same (laws.bounding c.low c.high (cell_in v i) (is_most _ _ within.0) (is_most _ _ within.1))
 
-  after : (p : ℕ) → p + 1 < length s.parts → value (cell_in v) (part s p) ≡ pos 1 → (o : Option ℕ) → cell_set_by s.cells p (part s p) ≡ o → (marks : List Mark) → Told marks → Left (after_part r o (part s p) marks)
+  after : (p : ℕ) → p + 1 < length s.parts → value (cell_in v) (part s p) ≡ pos 1 → (o : Option ℕ) → cell_set s p ≡ o → (marks : List Mark) → Told marks → Left (after_part r o (part s p) marks)
   after p lt holds None at marks told = go (r.decided (marked r marks (part s p))) refl
     where
       go : (d : Decision) → r.decided (marked r marks (part s p)) ≡ d → Left (unless_no d marks)
@@ -101,7 +99,7 @@ module _ (covers : Mark → ℤ → Type 0) (r : Meaning) (laws : Lawful covers 
 
       here : covers (marked r marks term) (cell_in v i)
       here =
-          let sets = keeps.setting p i (cell_is_set s.cells p i (part s p) at) in
+          let sets = keeps.setting p i (cell_is_set s p i at) in
           let kind = setting_kind s keeps p i sets in
           subst (covers (marked r marks term)) (set_value s p i sets (cell_in v) holds) (covered marks told term kind.0 kind.1)
 
@@ -125,7 +123,7 @@ module _ (covers : Mark → ℤ → Type 0) (r : Meaning) (laws : Lawful covers 
       go No is e = let z : ◌≡◌ {A = ℕ} 0 1 = cc in omega arith
       go Unknown is e = let z : ◌≡◌ {A = ℕ} 0 1 = cc in omega arith
 
-  never_passed : (p : ℕ) (es : List CellTerm) → es ≡ drop p s.parts → GoalAloneFalse v es → (marks : List Mark) → Told marks → pass_from r s.cells p es marks ≡ passed → ⊥
+  never_passed : (p : ℕ) (es : List CellTerm) → es ≡ drop p s.parts → GoalAloneFalse v es → (marks : List Mark) → Told marks → pass_from r s p es marks ≡ passed → ⊥
   never_passed p [] at h marks told is = h
   never_passed p (goal ∷ []) at h marks told is =
       let t = at_place s.parts p goal [] [] at in
@@ -133,11 +131,11 @@ module _ (covers : Mark → ℤ → Type 0) (r : Meaning) (laws : Lawful covers 
   never_passed p (e ∷ f ∷ es) at h marks told is =
       let t = at_place s.parts p e (f ∷ es) [] at in
       let lt : p + 1 < length s.parts = omega (arith, t.3) in
-      go (after_part r (cell_set_by s.cells p e) e marks)
-      (subst (λ t. Left (after_part r (cell_set_by s.cells p t) t marks)) (sym t.1) (after p lt (ap (value (cell_in v)) (sym t.1) ∙ h.0) (cell_set_by s.cells p (part s p)) refl marks told))
+      go (after_part r (cell_set s p) e marks)
+      (subst (λ t. Left (after_part r (cell_set s p) t marks)) (sym t.1) (after p lt (ap (value (cell_in v)) (sym t.1) ∙ h.0) (cell_set s p) refl marks told))
       is (never_passed (p + 1) (f ∷ es) t.2 h.1)
     where
-      go : (o : Option (List Mark)) → Left o → pass_or o (pass_from r s.cells (p + 1) (f ∷ es)) ≡ passed → ((marks : List Mark) → Told marks → pass_from r s.cells (p + 1) (f ∷ es) marks ≡ passed → ⊥) → ⊥
+      go : (o : Option (List Mark)) → Left o → pass_or o (pass_from r s (p + 1) (f ∷ es)) ≡ passed → ((marks : List Mark) → Told marks → pass_from r s (p + 1) (f ∷ es) marks ≡ passed → ⊥) → ⊥
       go None left is rest = left
       go (Some ms) left is rest = rest ms left is
 

@@ -2,11 +2,10 @@
 
 ghost use Rattle.std.specs.Prelude.{◌≡◌, ◌+◌, ◌<◌, ◌≤◌, length, map, drop, None, Some, replicate, take};
 ghost use Rattle.sheets.specs.Places.{cells_in, rows_in, says};
-ghost use Rattle.judges.specs.Passes.{bounds_mark, marked, after_part, Left, by_goal, answer_of, pass as passes, pass_from, cell_set_by as cell_set};
+ghost use Rattle.judges.specs.Passes.{bounds_mark, marked, after_part, Left, by_goal, answer_of, pass as passes, pass_from};
 ghost use Rattle.judges.specs.Passing.{pass_sound};
 
 use super::room;
-use super::setting::{cell_set_by, setting_term};
 use reckoning::decision::Decision;
 use reckoning::evaluation::evaluate;
 use reckoning::mark::Mark;
@@ -14,8 +13,8 @@ use reckoning::mentions::Cells;
 use reckoning::reckoning::Reckoning;
 use sheets::cell::{Cell, CellRow};
 use sheets::judge::{Answer, Judge};
+use sheets::setting::setting_term;
 use sheets::sheet::Sheet;
-use terms::part::part as part_of;
 
 // It goes once over the parts of a sheet, with a mark for each cell. 'No' of a part that is to be true means that no valuation falsifies the sheet.
 #[derive(Debug, Drop, PartialEq, Eq)]
@@ -88,15 +87,15 @@ impl<R: Reckoning> Pass<R> {
     fn settle(&self, sheet: &Sheet<'_>, marks: &mut [Mark], stack: &mut [Mark]) -> Answer
         requires marks { length marks.old ≡ length (cells_in sheet.now) }
         requires room { length (rows_in sheet.now) ≤ length stack.old }
-        ensures { result ≡ answer_of (pass_from (R.meaning self.now.reckoning) (cells_in sheet.now) 0 (says sheet.now).parts marks.old) }
+        ensures { result ≡ answer_of (pass_from (R.meaning self.now.reckoning) (says sheet.now) 0 (says sheet.now).parts marks.old) }
     {
         let goal = sheet.parts().len().saturating_sub(1);
         for (place, part) in sheet.parts().iter().enumerate() {
-            let rows = part_of(sheet.rows(), part.first, part.rows);
+            let rows = part.of(sheet.rows());
             if place == goal {
                 return by_decision(self.decide(rows, marks, stack));
             }
-            let set = cell_set_by(sheet.cells(), place, rows);
+            let set = sheet.cell_set_by(place);
             if self.take_in(set, rows, marks, stack).is_none() {
                 return Answer::Pass;
             }
