@@ -2,3 +2,5 @@ mod Parts
 mod Replying
 mod Walking
 mod Numbers
+mod Counting
+mod Opening

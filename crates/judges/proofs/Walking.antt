@@ -8,20 +8,20 @@ use Rattle.std.proofs.lemmas.List.{append-nil, drop_more, drop_all, take_all, ta
 use Rattle.std.proofs.lemmas.List.Folds.{find-append}
 use Rattle.std.proofs.lemmas.Bool.{cond-true, cond-false, cond_both, and_parts}
 use Rattle.reckoning.specs.Comparing.{is_most}
-use Rattle.terms.specs.declared.kind.Kind.TheVariants.{Number}
 use Rattle.terms.specs.Terms.{value}
 use Rattle.reckoning.specs.declared.mark.Mark.{Mark}
 use Rattle.sheets.specs.declared.cell.Cell.{Cell}
 use Rattle.sheets.specs.Sheets.{Condition, part, setting_term}
 use Rattle.sheets.specs.Valuations.{cell_in}
-use Rattle.judges.specs.Tries.{gap, ascending, above, is_inside, top, numbers, tries_from, is_refuted}
+use Rattle.judges.specs.Ranging.{no_cell}
+use Rattle.judges.specs.Tries.{occurs, gap, ascending, above, is_inside, top, numbers, tries_from, is_refuted}
 
 -- a try with all its numbers, or none where a set cell leaves its bounds
 abbrev pub Try : Type 0
 Try = Option (List ℤ)
 
 abbrev pub next_from : (List ℤ → List Try) → Condition → Option ℕ → Cell → List ℤ → List Try
-next_from go s None c lower = flat_map (λ n. go (lower ++ n ∷ [])) (c.low ∷ above c.low (top s.parts (length lower) None c))
+next_from go s None c lower = flat_map (λ n. go (lower ++ n ∷ [])) (c.low ∷ above c.low (top (occurs s.parts (length lower)) None c))
 next_from go s (Some p) c lower = cond (is_inside c (value (cell_in lower) (setting_term (part s p)))) (go (lower ++ value (cell_in lower) (setting_term (part s p)) ∷ [])) (None ∷ [])
 
 -- the tries that begin with the numbers of the lower cells, those among them that end early
@@ -60,7 +60,7 @@ module _ (s : Condition) where
           ∙ sym (find-append test (tries_from s cs (lower ++ n ∷ [])) (flat_map (λ n. tries_from s cs (lower ++ n ∷ [])) ns))
 
       go : (o : Option ℕ) → ((l : List ℤ) → first s (walk s cs l) ≡ find test (tries_from s cs l)) → first s (next_from (walk s cs) s o c lower) ≡ find test (flat_map (λ n. tries_from s cs (lower ++ n ∷ [])) (numbers s o c lower))
-      go None ih = each (c.low ∷ above c.low (top s.parts (length lower) None c)) ih
+      go None ih = each (c.low ∷ above c.low (top (occurs s.parts (length lower)) None c)) ih
       go (Some p) ih = pick (is_inside c (value (cell_in lower) (setting_term (part s p))))
         where
           n : ℤ
@@ -72,9 +72,6 @@ module _ (s : Condition) where
 
 abbrev pub no_range : Mark
 no_range = record { low = pos 0; high = pos 0 }
-
-abbrev pub no_cell : Cell
-no_cell = record { kind = Number; low = pos 0; high = pos 0; set_by = None }
 
 -- the numbers of a range that are still to come
 abbrev pub rest : Mark → ℤ → List ℤ
@@ -135,13 +132,13 @@ module _ (s : Condition) (rs : List Mark) where
     opened = ap (λ cs. walk s cs (take i v) ++ later i v) (drop_more s.cells i no_cell lt)
 
     -- a cell that no part sets begins at its low
-    pub begins : c.set_by ≡ None → get_or rs i no_range ≡ record { low = c.low; high = top s.parts i None c } → c.low ≤ℤ top s.parts i None c → left (i + 1) (set v i c.low) ≡ left i v
+    pub begins : c.set_by ≡ None → get_or rs i no_range ≡ record { low = c.low; high = top (occurs s.parts i) None c } → c.low ≤ℤ top (occurs s.parts i) None c → left (i + 1) (set v i c.low) ≡ left i v
     begins is range up =
         let here = length-take-le i v (omega arith) in
         left_set i v c.low (omega arith)
-        ∙ ap (λ ms. branch i v c.low ++ (flat_map (branch i v) ms ++ later i v)) (ap (λ r. rest r c.low) range ∙ rest_is (record { low = c.low; high = top s.parts i None c }) c.low up)
-        ∙ sym (append_assoc (branch i v c.low) (flat_map (branch i v) (above c.low (top s.parts i None c))) (later i v))
-        ∙ ap (λ k. flat_map (branch i v) (c.low ∷ above c.low (top s.parts k None c)) ++ later i v) (sym here)
+        ∙ ap (λ ms. branch i v c.low ++ (flat_map (branch i v) ms ++ later i v)) (ap (λ r. rest r c.low) range ∙ rest_is (record { low = c.low; high = top (occurs s.parts i) None c }) c.low up)
+        ∙ sym (append_assoc (branch i v c.low) (flat_map (branch i v) (above c.low (top (occurs s.parts i) None c))) (later i v))
+        ∙ ap (λ k. flat_map (branch i v) (c.low ∷ above c.low (top (occurs s.parts k) None c)) ++ later i v) (sym here)
         ∙ sym (opened ∙ ap (λ o. next_from (walk s (drop (i + 1) s.cells)) s o c (take i v) ++ later i v) is)
 
     -- a cell that a part sets follows it, and ends the try where it leaves its bounds

@@ -5,3 +5,4 @@ pub mod Keeping
 pub mod Passing
 pub mod Trying
 pub mod Numbering
+pub mod Ranging

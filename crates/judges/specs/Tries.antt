@@ -38,13 +38,13 @@ abbrev pub is_inside : Cell → ℤ → Bool
 is_inside c n = int_le c.low n && int_le n c.high
 
 -- the greatest number that a cell is tried with: its high if no part sets it and it occurs, else its low
-abbrev pub top : List CellTerm → ℕ → Option ℕ → Cell → ℤ
-top parts i None c = cond (occurs parts i) c.high c.low
-top parts i (Some p) c = c.low
+abbrev pub top : Bool → Option ℕ → Cell → ℤ
+top occurs None c = cond occurs c.high c.low
+top occurs (Some p) c = c.low
 
 -- the numbers that a cell takes after those of the lower cells: what the part that sets it says, if that is within its bounds, else all from its low to its top
 abbrev pub numbers : Condition → Option ℕ → Cell → List ℤ → List ℤ
-numbers s None c lower = c.low ∷ above c.low (top s.parts (length lower) None c)
+numbers s None c lower = c.low ∷ above c.low (top (occurs s.parts (length lower)) None c)
 numbers s (Some p) c lower = filter (is_inside c) (value (cell_in lower) (setting_term (part s p)) ∷ [])
 
 -- the tries that begin with the numbers of the lower cells, in ascending order, the lowest cell slowest
@@ -52,10 +52,14 @@ abbrev pub tries_from : Condition → List Cell → List ℤ → List (List ℤ)
 tries_from s [] lower = lower ∷ []
 tries_from s (c ∷ cs) lower = flat_map (λ n. tries_from s cs (lower ++ n ∷ [])) (numbers s c.set_by c lower)
 
--- from where to where each cell from i on is tried
+-- from where to where a cell is tried
+abbrev pub range_of : Bool → Cell → Mark
+range_of occurs c = between c.low (top occurs c.set_by c)
+
+-- the same of each cell from i on
 abbrev pub ranges : List CellTerm → ℕ → List Cell → List Mark
 ranges parts i [] = []
-ranges parts i (c ∷ cs) = between c.low (top parts i c.set_by c) ∷ ranges parts (i + 1) cs
+ranges parts i (c ∷ cs) = range_of (occurs parts i) c ∷ ranges parts (i + 1) cs
 
 -- in how many ways a number of each range can be chosen
 abbrev pub ways : List Mark → ℕ

@@ -3,5 +3,6 @@
 
 mod number;
 pub mod pass;
+mod ranges;
 pub mod relay;
 mod room;
