@@ -1,1 +1,3 @@
 pub mod Setters
+pub mod Rooms
+pub mod Keeping

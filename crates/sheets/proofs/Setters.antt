@@ -11,10 +11,10 @@ use Rattle.sheets.specs.declared.cell.Cell.{Cell}
 use Rattle.sheets.specs.Sheets.{Condition, part, set_by, is_some_of, is_set_by, cell_set, is_bounded}
 use Rattle.sheets.specs.Tables.{first_cell, sets, is_part, is_set, are_set, keeps}
 
-clash : {X : Type 0} → false ≡ true → X
+pub clash : {X : Type 0} → false ≡ true → X
 clash e = absurd (let z : ◌≡◌ {A = ℕ} 0 1 = cc in omega arith)
 
-unlike : {A X : Type 0} {x : A} → None ≡ Some x → X
+pub unlike : {A X : Type 0} {x : A} → None ≡ Some x → X
 unlike e = absurd (let z : ◌≡◌ {A = ℕ} 0 1 = cc in omega arith)
 
 not_true : (b : Bool) → (b ≡ true → ⊥) → b ≡ false

@@ -7,3 +7,5 @@ pub mod judge;
 pub mod part;
 pub mod setting;
 pub mod sheet;
+mod tables;
+mod term;
