@@ -4,3 +4,8 @@ mod Walking
 mod Numbers
 mod Counting
 mod Opening
+mod Finding
+mod Spanning
+mod Refuting
+mod Turning
+mod Following

@@ -9,11 +9,10 @@ use Rattle.terms.specs.declared.row.Row.TheVariants.{Constant, Mention, Operator
 use Rattle.reckoning.specs.declared.mark.Mark.{Mark}
 use Rattle.sheets.specs.declared.cell.Cell.{Cell}
 use Rattle.sheets.specs.declared.part.Part.{Part}
-use Rattle.sheets.specs.Sheets.{CellTerm, part_in}
-use Rattle.sheets.specs.Tables.{fills}
+use Rattle.sheets.specs.Sheets.{CellTerm, part_in, fills_from}
 use Rattle.judges.specs.Tries.{mentions, occurs, range_of, ranges}
 use Rattle.judges.specs.Ranging.{no_cell, opened}
-use Rattle.judges.proofs.Walking.{no_range}
+use Rattle.judges.specs.Walks.{no_range}
 
 -- each cell's range, where these rows mention cells
 pub record Ranged (cs : List Cell) (rows : List (Row ℕ)) (rs : List Mark) : Type 0 where
@@ -64,13 +63,11 @@ module _ (cs : List Cell) (rows : List (Row ℕ)) (k : ℕ) (d : Row ℕ) (lt : 
       }
 
 -- the rows of the parts, one after another, are the rows
-pub occurs_rows : (rows : List (Row ℕ)) (i used : ℕ) (ps : List Part) → fills (length rows) used ps ≡ true → list_any (mentions i) (drop used rows) ≡ occurs (map (part_in rows) ps) i
-occurs_rows rows i used [] e = ap (list_any (mentions i)) (drop_all used rows (omega (arith, eqb-true used (length rows) e)))
-occurs_rows rows i used (p ∷ ps) e =
-    let h = and_parts _ _ e in
-    let first : used ≡ p.first = sym (eqb-true p.first used h.0) in
+pub occurs_rows : (rows : List (Row ℕ)) (i used : ℕ) (ps : List Part) → fills_from (length rows) used ps → list_any (mentions i) (drop used rows) ≡ occurs (map (part_in rows) ps) i
+occurs_rows rows i used [] is = ap (list_any (mentions i)) (drop_all used rows (omega arith))
+occurs_rows rows i used (p ∷ ps) h =
     ap (list_any (mentions i)) (sym (take-append-drop p.rows (drop used rows))) ∙ list_any-append (mentions i) (take p.rows (drop used rows)) (drop p.rows (drop used rows))
-    ∙ ap₂ ◌||◌ (ap (λ f. list_any (mentions i) (take p.rows (drop f rows))) first) (ap (list_any (mentions i)) (drop-drop p.rows used rows) ∙ occurs_rows rows i (used + p.rows) ps h.1)
+    ∙ ap₂ ◌||◌ (ap (λ f. list_any (mentions i) (take p.rows (drop f rows))) (sym h.0)) (ap (list_any (mentions i)) (drop-drop p.rows used rows) ∙ occurs_rows rows i (used + p.rows) ps h.1)
 
 module _ (parts : List CellTerm) where
   pub length-ranges : (at : ℕ) (cs : List Cell) → length (ranges parts at cs) ≡ length cs

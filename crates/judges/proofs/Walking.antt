@@ -14,26 +14,8 @@ use Rattle.sheets.specs.declared.cell.Cell.{Cell}
 use Rattle.sheets.specs.Sheets.{Condition, part, setting_term}
 use Rattle.sheets.specs.Valuations.{cell_in}
 use Rattle.judges.specs.Ranging.{no_cell}
+use Rattle.judges.specs.Walks.{Try, next_from, walk, first, no_range, rest, later, left, begun, turning}
 use Rattle.judges.specs.Tries.{occurs, gap, ascending, above, is_inside, top, numbers, tries_from, is_refuted}
-
--- a try with all its numbers, or none where a set cell leaves its bounds
-abbrev pub Try : Type 0
-Try = Option (List ℤ)
-
-abbrev pub next_from : (List ℤ → List Try) → Condition → Option ℕ → Cell → List ℤ → List Try
-next_from go s None c lower = flat_map (λ n. go (lower ++ n ∷ [])) (c.low ∷ above c.low (top (occurs s.parts (length lower)) None c))
-next_from go s (Some p) c lower = cond (is_inside c (value (cell_in lower) (setting_term (part s p)))) (go (lower ++ value (cell_in lower) (setting_term (part s p)) ∷ [])) (None ∷ [])
-
--- the tries that begin with the numbers of the lower cells, those among them that end early
-abbrev pub walk : Condition → List Cell → List ℤ → List Try
-walk s [] lower = Some lower ∷ []
-walk s (c ∷ cs) lower = next_from (walk s cs) s c.set_by c lower
-
--- the first try that is refuted
-abbrev pub first : Condition → List Try → Option (List ℤ)
-first s [] = None
-first s (None ∷ ts) = first s ts
-first s (Some v ∷ ts) = cond (is_refuted v s.parts) (Some v) (first s ts)
 
 first-append : (s : Condition) (ts us : List Try) → first s (ts ++ us) ≡ option_or (first s ts) (first s us)
 first-append s [] us = refl
@@ -70,13 +52,6 @@ module _ (s : Condition) where
           pick true = ih (lower ++ n ∷ []) ∙ ap (find test) (sym (append-nil (tries_from s cs (lower ++ n ∷ []))))
           pick false = refl
 
-abbrev pub no_range : Mark
-no_range = record { low = pos 0; high = pos 0 }
-
--- the numbers of a range that are still to come
-abbrev pub rest : Mark → ℤ → List ℤ
-rest r n = cond (int_lt n r.high) (above n r.high) []
-
 less_than : (n m : ℤ) → int_lt n m ≡ true → (n +ℤ pos 1) ≤ℤ m
 less_than n m e = grind (arith, ints)
 
@@ -93,81 +68,72 @@ rest_next r n e =
     cond-true _ _ _ e ∙ ap (ascending (n +ℤ pos 1)) one ∙ ap (λ ms. (n +ℤ pos 1) ∷ ms) (sym (rest_is r (n +ℤ pos 1) (less_than n r.high e)))
 
 module _ (s : Condition) (rs : List Mark) where
-  -- the tries that come when those with these numbers of the first i cells are done
-  abbrev pub later : ℕ → List ℤ → List Try
-  later zero v = []
-  later (suc i) v = flat_map (λ n. walk s (drop (i + 1) s.cells) (take i v ++ n ∷ [])) (rest (get_or rs i no_range) (get_or v i (pos 0))) ++ later i v
-
-  -- the tries that are left where the first i cells have these numbers
-  abbrev pub left : ℕ → List ℤ → List Try
-  left i v = walk s (drop i s.cells) (take i v) ++ later i v
-
   abbrev branch : ℕ → List ℤ → ℤ → List Try
   branch i v n = walk s (drop (i + 1) s.cells) (take i v ++ n ∷ [])
 
-  later_more : (i : ℕ) (v : List ℤ) → later (i + 1) v ≡ flat_map (branch i v) (rest (get_or rs i no_range) (get_or v i (pos 0))) ++ later i v
-  later_more i v = ap (λ k. later k v) (add-one i)
+  later_more : (i : ℕ) (v : List ℤ) → later s rs (i + 1) v ≡ flat_map (branch i v) (rest (get_or rs i no_range) (get_or v i (pos 0))) ++ later s rs i v
+  later_more i v = ap (λ k. later s rs k v) (add-one i)
 
-  later_set : (i j : ℕ) (v : List ℤ) (n : ℤ) → i ≤ j → later i (set v j n) ≡ later i v
+  later_set : (i j : ℕ) (v : List ℤ) (n : ℤ) → i ≤ j → later s rs i (set v j n) ≡ later s rs i v
   later_set zero j v n le = refl
   later_set (suc i) j v n le =
       let other : i ≢ j = omega arith in
-      ap₂ (λ l m. flat_map (λ n. walk s (drop (i + 1) s.cells) (l ++ n ∷ [])) (rest (get_or rs i no_range) m) ++ later i (set v j n)) (take-set-le i v j n (omega arith)) (get_or-set_other v j i n (pos 0) other)
+      ap₂ (λ l m. flat_map (λ n. walk s (drop (i + 1) s.cells) (l ++ n ∷ [])) (rest (get_or rs i no_range) m) ++ later s rs i (set v j n)) (take-set-le i v j n (omega arith)) (get_or-set_other v j i n (pos 0) other)
       ∙ ap (λ ts. flat_map (branch i v) (rest (get_or rs i no_range) (get_or v i (pos 0))) ++ ts) (later_set i j v n (omega arith))
 
-  -- the tries that are left once a cell has its number
-  left_set : (i : ℕ) (v : List ℤ) (n : ℤ) → i < length v → left (i + 1) (set v i n) ≡ branch i v n ++ (flat_map (branch i v) (rest (get_or rs i no_range) n) ++ later i v)
+  -- the tries that are left s rs once a cell has its number
+  left_set : (i : ℕ) (v : List ℤ) (n : ℤ) → i < length v → left s rs (i + 1) (set v i n) ≡ branch i v n ++ (flat_map (branch i v) (rest (get_or rs i no_range) n) ++ later s rs i v)
   left_set i v n lt =
-      ap (λ l. walk s (drop (i + 1) s.cells) l ++ later (i + 1) (set v i n)) (take_more_set v i n lt)
+      ap (λ l. walk s (drop (i + 1) s.cells) l ++ later s rs (i + 1) (set v i n)) (take_more_set v i n lt)
       ∙ ap (λ ts. branch i v n ++ ts)
       (later_more i (set v i n)
-      ∙ ap₂ (λ l m. flat_map (λ n. walk s (drop (i + 1) s.cells) (l ++ n ∷ [])) (rest (get_or rs i no_range) m) ++ later i (set v i n)) (take-set-le i v i n (omega arith)) (get_or-set_same v i n (pos 0) lt)
+      ∙ ap₂ (λ l m. flat_map (λ n. walk s (drop (i + 1) s.cells) (l ++ n ∷ [])) (rest (get_or rs i no_range) m) ++ later s rs i (set v i n)) (take-set-le i v i n (omega arith)) (get_or-set_same v i n (pos 0) lt)
       ∙ ap (λ ts. flat_map (branch i v) (rest (get_or rs i no_range) n) ++ ts) (later_set i i v n (omega arith)))
 
   module _ (i : ℕ) (v : List ℤ) (lt : i < length s.cells) (long : length v ≡ length s.cells) where
     abbrev c : Cell
     c = get_or s.cells i no_cell
 
-    opened : left i v ≡ next_from (walk s (drop (i + 1) s.cells)) s c.set_by c (take i v) ++ later i v
-    opened = ap (λ cs. walk s cs (take i v) ++ later i v) (drop_more s.cells i no_cell lt)
+    opened : left s rs i v ≡ next_from (walk s (drop (i + 1) s.cells)) s c.set_by c (take i v) ++ later s rs i v
+    opened = ap (λ cs. walk s cs (take i v) ++ later s rs i v) (drop_more s.cells i no_cell lt)
 
     -- a cell that no part sets begins at its low
-    pub begins : c.set_by ≡ None → get_or rs i no_range ≡ record { low = c.low; high = top (occurs s.parts i) None c } → c.low ≤ℤ top (occurs s.parts i) None c → left (i + 1) (set v i c.low) ≡ left i v
+    pub begins : c.set_by ≡ None → get_or rs i no_range ≡ record { low = c.low; high = top (occurs s.parts i) None c } → c.low ≤ℤ top (occurs s.parts i) None c → left s rs (i + 1) (set v i c.low) ≡ left s rs i v
     begins is range up =
         let here = length-take-le i v (omega arith) in
         left_set i v c.low (omega arith)
-        ∙ ap (λ ms. branch i v c.low ++ (flat_map (branch i v) ms ++ later i v)) (ap (λ r. rest r c.low) range ∙ rest_is (record { low = c.low; high = top (occurs s.parts i) None c }) c.low up)
-        ∙ sym (append_assoc (branch i v c.low) (flat_map (branch i v) (above c.low (top (occurs s.parts i) None c))) (later i v))
-        ∙ ap (λ k. flat_map (branch i v) (c.low ∷ above c.low (top (occurs s.parts k) None c)) ++ later i v) (sym here)
-        ∙ sym (opened ∙ ap (λ o. next_from (walk s (drop (i + 1) s.cells)) s o c (take i v) ++ later i v) is)
+        ∙ ap (λ ms. branch i v c.low ++ (flat_map (branch i v) ms ++ later s rs i v)) (ap (λ r. rest r c.low) range ∙ rest_is (record { low = c.low; high = top (occurs s.parts i) None c }) c.low up)
+        ∙ sym (append_assoc (branch i v c.low) (flat_map (branch i v) (above c.low (top (occurs s.parts i) None c))) (later s rs i v))
+        ∙ ap (λ k. flat_map (branch i v) (c.low ∷ above c.low (top (occurs s.parts k) None c)) ++ later s rs i v) (sym here)
+        ∙ sym (opened ∙ ap (λ o. next_from (walk s (drop (i + 1) s.cells)) s o c (take i v) ++ later s rs i v) is)
 
     -- a cell that a part sets follows it, and ends the try where it leaves its bounds
-    pub follows : (p : ℕ) → c.set_by ≡ Some p → get_or rs i no_range ≡ record { low = c.low; high = c.low } → (n : ℤ) → n ≡ value (cell_in (take i v)) (setting_term (part s p)) → is_inside c n ≡ true → left (i + 1) (set v i n) ≡ left i v
+    pub follows : (p : ℕ) → c.set_by ≡ Some p → get_or rs i no_range ≡ record { low = c.low; high = c.low } → (n : ℤ) → n ≡ value (cell_in (take i v)) (setting_term (part s p)) → is_inside c n ≡ true → left s rs (i + 1) (set v i n) ≡ left s rs i v
     follows p is range n said inside =
         left_set i v n (omega arith)
-        ∙ ap (λ ms. branch i v n ++ (flat_map (branch i v) ms ++ later i v)) (ap (λ r. rest r n) range ∙ rest_none (record { low = c.low; high = c.low }) n (is_most c.low n (and_parts _ _ inside).0))
-        ∙ sym (opened ∙ ap (λ o. next_from (walk s (drop (i + 1) s.cells)) s o c (take i v) ++ later i v) is
-        ∙ ap (λ m. cond (is_inside c m) (branch i v m) (None ∷ []) ++ later i v) (sym said)
-        ∙ ap (λ b. cond b (branch i v n) (None ∷ []) ++ later i v) inside)
+        ∙ ap (λ ms. branch i v n ++ (flat_map (branch i v) ms ++ later s rs i v)) (ap (λ r. rest r n) range ∙ rest_none (record { low = c.low; high = c.low }) n (is_most c.low n (and_parts _ _ inside).0))
+        ∙ sym (opened ∙ ap (λ o. next_from (walk s (drop (i + 1) s.cells)) s o c (take i v) ++ later s rs i v) is
+        ∙ ap (λ m. cond (is_inside c m) (branch i v m) (None ∷ []) ++ later s rs i v) (sym said)
+        ∙ ap (λ b. cond b (branch i v n) (None ∷ []) ++ later s rs i v) inside)
 
-    pub ends : (p : ℕ) → c.set_by ≡ Some p → (n : ℤ) → n ≡ value (cell_in (take i v)) (setting_term (part s p)) → is_inside c n ≡ false → left i v ≡ None ∷ later i v
+    pub ends : (p : ℕ) → c.set_by ≡ Some p → (n : ℤ) → n ≡ value (cell_in (take i v)) (setting_term (part s p)) → is_inside c n ≡ false → left s rs i v ≡ None ∷ later s rs i v
     ends p is n said out =
-        opened ∙ ap (λ o. next_from (walk s (drop (i + 1) s.cells)) s o c (take i v) ++ later i v) is
-        ∙ ap (λ m. cond (is_inside c m) (branch i v m) (None ∷ []) ++ later i v) (sym said)
-        ∙ ap (λ b. cond b (branch i v n) (None ∷ []) ++ later i v) out
+        opened ∙ ap (λ o. next_from (walk s (drop (i + 1) s.cells)) s o c (take i v) ++ later s rs i v) is
+        ∙ ap (λ m. cond (is_inside c m) (branch i v m) (None ∷ []) ++ later s rs i v) (sym said)
+        ∙ ap (λ b. cond b (branch i v n) (None ∷ []) ++ later s rs i v) out
 
-  pub completes : (v : List ℤ) → length v ≡ length s.cells → left (length s.cells) v ≡ Some v ∷ later (length s.cells) v
+  pub completes : (v : List ℤ) → length v ≡ length s.cells → left s rs (length s.cells) v ≡ Some v ∷ later s rs (length s.cells) v
   completes v long =
-      ap₂ (λ cs l. walk s cs l ++ later (length s.cells) v) (drop_all (length s.cells) s.cells (omega arith)) (take_all (length s.cells) v (omega arith))
+      ap₂ (λ cs l. walk s cs l ++ later s rs (length s.cells) v) (drop_all (length s.cells) s.cells (omega arith)) (take_all (length s.cells) v (omega arith))
 
   -- a cell at the end of its range is passed by
-  pub passed_by : (i : ℕ) (v : List ℤ) → int_lt (get_or v i (pos 0)) (get_or rs i no_range).high ≡ false → later (i + 1) v ≡ later i v
-  passed_by i v done = later_more i v ∙ ap (λ b. flat_map (branch i v) (cond b (above (get_or v i (pos 0)) (get_or rs i no_range).high) []) ++ later i v) done
+  pub passed_by : (i : ℕ) (v : List ℤ) → int_lt (get_or v i (pos 0)) (get_or rs i no_range).high ≡ false → later s rs (i + 1) v ≡ later s rs i v
+  passed_by i v done = later_more i v ∙ ap (λ b. flat_map (branch i v) (cond b (above (get_or v i (pos 0)) (get_or rs i no_range).high) []) ++ later s rs i v) done
 
   -- any other turns to its next number
-  pub turns : (i : ℕ) (v : List ℤ) → i < length v → int_lt (get_or v i (pos 0)) (get_or rs i no_range).high ≡ true → left (i + 1) (set v i (get_or v i (pos 0) +ℤ pos 1)) ≡ later (i + 1) v
+  pub turns : (i : ℕ) (v : List ℤ) → i < length v → int_lt (get_or v i (pos 0)) (get_or rs i no_range).high ≡ true → left s rs (i + 1) (set v i (get_or v i (pos 0) +ℤ pos 1)) ≡ later s rs (i + 1) v
   turns i v lt more =
       let n = get_or v i (pos 0) in
       left_set i v (n +ℤ pos 1) lt
-      ∙ sym (append_assoc (branch i v (n +ℤ pos 1)) (flat_map (branch i v) (rest (get_or rs i no_range) (n +ℤ pos 1))) (later i v))
-      ∙ sym (later_more i v ∙ ap (λ ms. flat_map (branch i v) ms ++ later i v) (rest_next (get_or rs i no_range) n more))
+      ∙ sym (append_assoc (branch i v (n +ℤ pos 1)) (flat_map (branch i v) (rest (get_or rs i no_range) (n +ℤ pos 1))) (later s rs i v))
+      ∙ sym (later_more i v ∙ ap (λ ms. flat_map (branch i v) ms ++ later s rs i v) (rest_next (get_or rs i no_range) n more))

@@ -6,3 +6,4 @@ pub mod Passing
 pub mod Trying
 pub mod Numbering
 pub mod Ranging
+pub mod Walks

@@ -94,7 +94,7 @@ occurs_in (e ∷ es) zero i lt h = or_left _ _ h
 occurs_in (e ∷ es) (suc p) i lt h = or_right _ _ (occurs_in es p i (omega arith) h)
 
 -- a row mentions what it is said to mention below i
-below : (i j : ℕ) (e : CellTerm) → list_all (is_below i) e ≡ true → list_any (mentions j) e ≡ true → j < i
+pub below : (i j : ℕ) (e : CellTerm) → list_all (is_below i) e ≡ true → list_any (mentions j) e ≡ true → j < i
 below i j [] all any = clash any
 below i j (Constant z ∷ e) all any = below i j e all any
 below i j (Applied o ∷ e) all any = below i j e all any

@@ -6,3 +6,4 @@ pub mod pass;
 mod ranges;
 pub mod relay;
 mod room;
+mod tries;
