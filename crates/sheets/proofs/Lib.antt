@@ -1,3 +1,5 @@
 pub mod Setters
 pub mod Rooms
 pub mod Keeping
+pub mod Spanning
+pub mod Replaying

@@ -4,3 +4,4 @@ pub mod Tables
 pub mod Valuations
 pub mod Judges
 pub mod Places
+pub mod Replays

@@ -5,6 +5,7 @@ pub mod cell;
 pub mod fault;
 pub mod judge;
 pub mod part;
+pub mod replay;
 pub mod setting;
 pub mod sheet;
 mod tables;
