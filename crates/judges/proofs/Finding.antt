@@ -1,5 +1,5 @@
 -- The trier's loop: what is left of the tries at each turn.
-use Rattle.std.proofs.Common.{◌≡◌, ℕ, zero, suc, ◌+◌, ◌<◌, ◌≤◌, ◌⊎◌, Bool, true, false, cond, ◌&&◌, List, [], ◌∷◌, length, get_or, set, ℤ, pos, ◌+ℤ◌, ◌≤ℤ◌, Some, None, Option, refl, sym, ap, ◌∙◌, subst, inl, inr, add-one, zero-add, arith}
+use Rattle.std.proofs.Common.{◌≡◌, ℕ, zero, suc, ◌+◌, ◌<◌, ◌≤◌, Bool, true, false, cond, ◌&&◌, List, [], ◌∷◌, length, get_or, ℤ, pos, ◌+ℤ◌, ◌≤ℤ◌, Some, None, Option, refl, sym, ap, ◌∙◌, subst, inl, inr, add-one, zero-add, arith}
 use Rattle.std.specs.Prelude.{int_le, int_lt}
 use Rattle.std.proofs.lemmas.Int.{ints}
 use Rattle.std.proofs.lemmas.Bool.{and_parts, cases_lt}
@@ -8,8 +8,8 @@ use Rattle.reckoning.specs.declared.mark.Mark.{Mark}
 use Rattle.reckoning.specs.Comparing.{is_most}
 use Rattle.sheets.specs.declared.cell.Cell.{Cell}
 use Rattle.sheets.specs.Sheets.{Condition, is_bound, is_bounded, Keeps}
-use Rattle.sheets.specs.Valuations.{Within}
-use Rattle.judges.specs.Tries.{occurs, is_inside, top, range_of, ranges, is_refuted}
+use Rattle.sheets.specs.Valuations.{Within, allows}
+use Rattle.judges.specs.Tries.{occurs, top, range_of, ranges, is_refuted}
 use Rattle.judges.specs.Walks.{Try, walk, first, no_range, later, left, turning, Turned, Followed}
 use Rattle.judges.specs.Ranging.{no_cell}
 use Rattle.judges.specs.Keeping.{at_each, within_at, within_length}
@@ -81,7 +81,7 @@ module _ (s : Condition) (keeps : Keeps s) (v w : List ℤ) (from place : ℕ) (
       ]
 
   -- a turned number stays within its cell's bounds
-  turned_inside : (j : ℕ) → j < length s.cells → int_lt (get_or w j (pos 0)) (get_or rs j no_range).high ≡ true → is_inside (get_or s.cells j no_cell) (get_or w j (pos 0) +ℤ pos 1) ≡ true
+  turned_inside : (j : ℕ) → j < length s.cells → int_lt (get_or w j (pos 0)) (get_or rs j no_range).high ≡ true → allows (get_or s.cells j no_cell) (get_or w j (pos 0) +ℤ pos 1) ≡ true
   turned_inside j lt less =
       let c = get_or s.cells j no_cell in
       let here : (int_le c.low (get_or w j (pos 0)) && int_le (get_or w j (pos 0)) c.high) ≡ true = within_at s.cells w within j c (slice_get-get_or s.cells j no_cell lt) in
@@ -89,7 +89,7 @@ module _ (s : Condition) (keeps : Keeps s) (v w : List ℤ) (from place : ℕ) (
       let range : get_or rs j no_range ≡ range_of (occurs s.parts j) c = range_at s.parts 0 s.cells j lt ∙ ap (λ i. range_of (occurs s.parts i) c) (zero-add j) in
       inside c (get_or w j (pos 0)) (top (occurs s.parts j) c.set_by c) (and_parts _ _ here).0 (ap (λ r. int_lt (get_or w j (pos 0)) r.high) (sym range) ∙ less) (to_top c up (occurs s.parts j) c.set_by)
     where
-      inside : (c : Cell) (n high : ℤ) → int_le c.low n ≡ true → int_lt n high ≡ true → high ≤ℤ c.high → is_inside c (n +ℤ pos 1) ≡ true
+      inside : (c : Cell) (n high : ℤ) → int_le c.low n ≡ true → int_lt n high ≡ true → high ≤ℤ c.high → allows c (n +ℤ pos 1) ≡ true
       inside c n high low less most = grind (arith, ints)
 
       to_top : (c : Cell) → int_le c.low c.high ≡ true → (b : Bool) (o : Option ℕ) → top b o c ≤ℤ c.high
@@ -114,8 +114,7 @@ module _ (s : Condition) (keeps : Keeps s) (v w : List ℤ) (from place : ℕ) (
           let reached = followed.reached in
           let lt : j < length s.cells = omega (arith, r.0) in
           let next_left : left s rs (j + 1) after ≡ later s rs place w = ap (left s rs (j + 1)) t.1 ∙ turns s rs j w (omega (arith, long)) r.1 ∙ sym r.2 in
-          subst (λ n. Within s.cells after × Going s n after × (to_go s n after < to_go s (Some from) v)) (sym t.0)
-          (
+          subst (λ n. Within s.cells after × Going s n after × (to_go s n after < to_go s (Some from) v)) (sym t.0) (
             subst (Within s.cells) (sym t.1) (within_set s.cells w j (get_or w j (pos 0) +ℤ pos 1) within lt (turned_inside j lt r.1)),
             (omega arith, going.1 ∙ d.0 ∙ ap (first s) (sym next_left)),
             omega (arith, ap length next_left, d.1),

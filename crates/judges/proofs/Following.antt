@@ -1,7 +1,6 @@
 -- A cell gets the number that it begins with, or its try ends.
 use Rattle.std.proofs.Common.{◌≡◌, ℕ, zero, suc, ◌+◌, ◌<◌, Bool, true, false, cond, ◌&&◌, List, [], ◌∷◌, length, take, get_or, set, ℤ, pos, ◌≤ℤ◌, Some, None, Option, refl, sym, ap, ◌∙◌, subst, zero-add, arith}
 use Rattle.std.specs.Prelude.{int_le}
-use Rattle.std.specs.List.{list_any}
 use Rattle.std.proofs.lemmas.Int.{ints}
 use Rattle.std.proofs.lemmas.List.{get_or-take}
 use Rattle.std.proofs.lemmas.Bool.{and_parts, and_from, true≢false}
@@ -10,9 +9,9 @@ use Rattle.reckoning.specs.Comparing.{is_most}
 use Rattle.reckoning.proofs.Mentioning.{value_agrees}
 use Rattle.reckoning.specs.declared.mark.Mark.{Mark}
 use Rattle.sheets.specs.declared.cell.Cell.{Cell}
-use Rattle.sheets.specs.Sheets.{CellTerm, Condition, part, setting_term, set_by, is_bound, is_bounded, Keeps}
-use Rattle.sheets.specs.Valuations.{cell_in, Within}
-use Rattle.judges.specs.Tries.{mentions, occurs, is_inside, top, range_of, ranges}
+use Rattle.sheets.specs.Sheets.{Condition, part, setting_term, set_by, is_bound, is_bounded, Keeps}
+use Rattle.sheets.specs.Valuations.{cell_in, Within, allows}
+use Rattle.judges.specs.Tries.{occurs, top, range_of, ranges}
 use Rattle.judges.specs.Walks.{no_range, later, left, begun}
 use Rattle.judges.specs.Ranging.{no_cell}
 use Rattle.judges.specs.Keeping.{at_each, within_length}
@@ -24,7 +23,7 @@ use Rattle.judges.proofs.Walking.{begins, follows, ends}
 clash : {X : Type 0} → false ≡ true → X
 clash e = absurd (true≢false (sym e))
 
-pub within_set : (cs : List Cell) (v : List ℤ) (i : ℕ) (n : ℤ) → Within cs v → i < length cs → is_inside (get_or cs i no_cell) n ≡ true → Within cs (set v i n)
+pub within_set : (cs : List Cell) (v : List ℤ) (i : ℕ) (n : ℤ) → Within cs v → i < length cs → allows (get_or cs i no_cell) n ≡ true → Within cs (set v i n)
 within_set [] v i n h lt inside = absurd (omega arith)
 within_set (c ∷ cs) [] i n h lt inside = clash h
 within_set (c ∷ cs) (m ∷ v) zero n h lt inside = and_from _ _ inside (and_parts _ _ h).1
@@ -62,20 +61,20 @@ module _ (s : Condition) (keeps : Keeps s) (v : List ℤ) (within : Within s.cel
       go None is e =
           let same : c.low ≡ n = cc in
           let none : c.set_by ≡ None = sym is_set ∙ is in
-          let least : is_inside c c.low ≡ true = grind (arith, ints, up) in
+          let least : allows c c.low ≡ true = grind (arith, ints, up) in
           subst (λ m. Within s.cells (set v i m) × (left s rs (i + 1) (set v i m) ≡ left s rs i v)) same
           (within_set s.cells v i c.low within lt least, begins s rs i v lt long none (range ∙ ap (λ o. record { low = c.low; high = top (occurs s.parts i) o c }) none) (to_top (occurs s.parts i)))
         where
           to_top : (b : Bool) → c.low ≤ℤ top b None c
           to_top true = is_most _ _ up
           to_top false = omega (arith, ints)
-      go (Some p) is e = at (is_inside c (value (cell_in v) (setting_term (part s p)))) refl e
+      go (Some p) is e = at (allows c (value (cell_in v) (setting_term (part s p)))) refl e
         where
-          at : (b : Bool) → is_inside c (value (cell_in v) (setting_term (part s p))) ≡ b → cond b (Some (value (cell_in v) (setting_term (part s p)))) None ≡ Some n → Within s.cells (set v i n) × (left s rs (i + 1) (set v i n) ≡ left s rs i v)
+          at : (b : Bool) → allows c (value (cell_in v) (setting_term (part s p))) ≡ b → cond b (Some (value (cell_in v) (setting_term (part s p)))) None ≡ Some n → Within s.cells (set v i n) × (left s rs (i + 1) (set v i n) ≡ left s rs i v)
           at true inside e =
               let same : value (cell_in v) (setting_term (part s p)) ≡ n = cc in
               let set_it : c.set_by ≡ Some p = sym is_set ∙ is in
-              let in_it : is_inside c n ≡ true = ap (is_inside c) (sym same) ∙ inside in
+              let in_it : allows c n ≡ true = ap (allows c) (sym same) ∙ inside in
               (within_set s.cells v i n within lt in_it, follows s rs i v lt long p set_it (range ∙ ap (λ o. record { low = c.low; high = top (occurs s.parts i) o c }) set_it) n (sym same ∙ by_lower p is) in_it)
           at false inside e = absurd (let z : ◌≡◌ {A = ℕ} 0 1 = cc in omega arith)
 
@@ -84,8 +83,8 @@ module _ (s : Condition) (keeps : Keeps s) (v : List ℤ) (within : Within s.cel
     where
       go : (o : Option ℕ) → set_by s.cells i ≡ o → begun s o c v ≡ None → left s rs i v ≡ None ∷ later s rs i v
       go None is e = absurd (let z : ◌≡◌ {A = ℕ} 0 1 = cc in omega arith)
-      go (Some p) is e = at (is_inside c (value (cell_in v) (setting_term (part s p)))) refl e
+      go (Some p) is e = at (allows c (value (cell_in v) (setting_term (part s p)))) refl e
         where
-          at : (b : Bool) → is_inside c (value (cell_in v) (setting_term (part s p))) ≡ b → cond b (Some (value (cell_in v) (setting_term (part s p)))) None ≡ None → left s rs i v ≡ None ∷ later s rs i v
+          at : (b : Bool) → allows c (value (cell_in v) (setting_term (part s p))) ≡ b → cond b (Some (value (cell_in v) (setting_term (part s p)))) None ≡ None → left s rs i v ≡ None ∷ later s rs i v
           at true inside e = absurd (let z : ◌≡◌ {A = ℕ} 0 1 = cc in omega arith)
           at false out e = ends s rs i v lt long p (sym is_set ∙ is) (value (cell_in v) (setting_term (part s p))) (by_lower p is) out

@@ -1,12 +1,15 @@
 -- What the numbers of a valuation within bounds come to, and how many rows a part has.
-use Rattle.std.proofs.Common.{◌≡◌, ℕ, zero, suc, ◌+◌, ◌<◌, ◌≤◌, true, List, [], ◌∷◌, length, map, drop, take, get_or, ℤ, Some, None, Option, sym, ap, ◌∙◌, subst, refl, arith}
+use Rattle.std.proofs.Common.{◌≡◌, ℕ, zero, suc, ◌<◌, ◌≤◌, List, [], ◌∷◌, length, map, drop, get_or, ℤ, Some, arith}
 use Rattle.std.proofs.lemmas.List.{length-take, length-drop}
 use Rattle.terms.specs.declared.row.Row.{Row}
 use Rattle.reckoning.specs.Exactness.{Spans}
-use Rattle.sheets.specs.declared.cell.Cell.{Cell}
 use Rattle.sheets.specs.declared.part.Part.{Part}
-use Rattle.sheets.specs.Sheets.{CellTerm, Condition, part, part_in, setting_term, set_by, Sets, Keeps, condition_of}
+use Rattle.sheets.specs.Sheets.{CellTerm, Condition, part, part_in, setting_term, set_by, Keeps, is_true_term, cell_bounds}
 use Rattle.sheets.specs.Valuations.{cell_in, Within}
+use Rattle.sheets.proofs.Spanning.{part_stays}
+use Rattle.judges.specs.Keeping.{at_each}
+use Rattle.reckoning.specs.Spanning.{ranged_rows}
+use Rattle.checking.specs.Nesting.{writes_term}
 
 spans_rest : (env : ℕ → ℤ) (n : ℕ) (e : CellTerm) → Spans env e → Spans env (drop n e)
 spans_rest env zero e h = h
@@ -15,7 +18,9 @@ spans_rest env (suc n) (r ∷ e) h = spans_rest env n e h.1
 
 module _ (s : Condition) (keeps : Keeps s) (v : List ℤ) (within : Within s.cells v) where
   pub part_spans : (p : ℕ) → p < length s.parts → Spans (cell_in v) (part s p)
-  part_spans p lt = ?
+  part_spans p lt =
+      (part_stays s.cells v keeps.bounded within (part s p) (at_each (writes_term 33) s.parts p [] keeps.complete lt) (at_each (is_true_term s.cells) s.parts p [] keeps.truths lt)
+      (at_each (ranged_rows (cell_bounds s.cells)) s.parts p [] keeps.ranged lt)).spans
 
   pub setting_spans : (p i : ℕ) → set_by s.cells i ≡ Some p → Spans (cell_in v) (setting_term (part s p))
   setting_spans p i is = let earlier = (keeps.setting p i is).earlier in spans_rest (cell_in v) 2 (part s p) (part_spans p (omega arith))

@@ -12,10 +12,10 @@ use Rattle.terms.specs.Terms.{value}
 use Rattle.reckoning.specs.declared.mark.Mark.{Mark}
 use Rattle.sheets.specs.declared.cell.Cell.{Cell}
 use Rattle.sheets.specs.Sheets.{Condition, part, setting_term}
-use Rattle.sheets.specs.Valuations.{cell_in}
+use Rattle.sheets.specs.Valuations.{cell_in, allows}
 use Rattle.judges.specs.Ranging.{no_cell}
-use Rattle.judges.specs.Walks.{Try, next_from, walk, first, no_range, rest, later, left, begun, turning}
-use Rattle.judges.specs.Tries.{occurs, gap, ascending, above, is_inside, top, numbers, tries_from, is_refuted}
+use Rattle.judges.specs.Walks.{Try, next_from, walk, first, no_range, rest, later, left}
+use Rattle.judges.specs.Tries.{occurs, gap, ascending, above, top, numbers, tries_from, is_refuted}
 
 first-append : (s : Condition) (ts us : List Try) → first s (ts ++ us) ≡ option_or (first s ts) (first s us)
 first-append s [] us = refl
@@ -43,7 +43,7 @@ module _ (s : Condition) where
 
       go : (o : Option ℕ) → ((l : List ℤ) → first s (walk s cs l) ≡ find test (tries_from s cs l)) → first s (next_from (walk s cs) s o c lower) ≡ find test (flat_map (λ n. tries_from s cs (lower ++ n ∷ [])) (numbers s o c lower))
       go None ih = each (c.low ∷ above c.low (top (occurs s.parts (length lower)) None c)) ih
-      go (Some p) ih = pick (is_inside c (value (cell_in lower) (setting_term (part s p))))
+      go (Some p) ih = pick (allows c (value (cell_in lower) (setting_term (part s p))))
         where
           n : ℤ
           n = value (cell_in lower) (setting_term (part s p))
@@ -108,18 +108,18 @@ module _ (s : Condition) (rs : List Mark) where
         ∙ sym (opened ∙ ap (λ o. next_from (walk s (drop (i + 1) s.cells)) s o c (take i v) ++ later s rs i v) is)
 
     -- a cell that a part sets follows it, and ends the try where it leaves its bounds
-    pub follows : (p : ℕ) → c.set_by ≡ Some p → get_or rs i no_range ≡ record { low = c.low; high = c.low } → (n : ℤ) → n ≡ value (cell_in (take i v)) (setting_term (part s p)) → is_inside c n ≡ true → left s rs (i + 1) (set v i n) ≡ left s rs i v
+    pub follows : (p : ℕ) → c.set_by ≡ Some p → get_or rs i no_range ≡ record { low = c.low; high = c.low } → (n : ℤ) → n ≡ value (cell_in (take i v)) (setting_term (part s p)) → allows c n ≡ true → left s rs (i + 1) (set v i n) ≡ left s rs i v
     follows p is range n said inside =
         left_set i v n (omega arith)
         ∙ ap (λ ms. branch i v n ++ (flat_map (branch i v) ms ++ later s rs i v)) (ap (λ r. rest r n) range ∙ rest_none (record { low = c.low; high = c.low }) n (is_most c.low n (and_parts _ _ inside).0))
         ∙ sym (opened ∙ ap (λ o. next_from (walk s (drop (i + 1) s.cells)) s o c (take i v) ++ later s rs i v) is
-        ∙ ap (λ m. cond (is_inside c m) (branch i v m) (None ∷ []) ++ later s rs i v) (sym said)
+        ∙ ap (λ m. cond (allows c m) (branch i v m) (None ∷ []) ++ later s rs i v) (sym said)
         ∙ ap (λ b. cond b (branch i v n) (None ∷ []) ++ later s rs i v) inside)
 
-    pub ends : (p : ℕ) → c.set_by ≡ Some p → (n : ℤ) → n ≡ value (cell_in (take i v)) (setting_term (part s p)) → is_inside c n ≡ false → left s rs i v ≡ None ∷ later s rs i v
+    pub ends : (p : ℕ) → c.set_by ≡ Some p → (n : ℤ) → n ≡ value (cell_in (take i v)) (setting_term (part s p)) → allows c n ≡ false → left s rs i v ≡ None ∷ later s rs i v
     ends p is n said out =
         opened ∙ ap (λ o. next_from (walk s (drop (i + 1) s.cells)) s o c (take i v) ++ later s rs i v) is
-        ∙ ap (λ m. cond (is_inside c m) (branch i v m) (None ∷ []) ++ later s rs i v) (sym said)
+        ∙ ap (λ m. cond (allows c m) (branch i v m) (None ∷ []) ++ later s rs i v) (sym said)
         ∙ ap (λ b. cond b (branch i v n) (None ∷ []) ++ later s rs i v) out
 
   pub completes : (v : List ℤ) → length v ≡ length s.cells → left s rs (length s.cells) v ≡ Some v ∷ later s rs (length s.cells) v

@@ -9,10 +9,10 @@ use Rattle.terms.specs.declared.kind.Kind.TheVariants.{Number, Truth}
 use Rattle.terms.specs.declared.operator.Operator.TheVariants.{Equal}
 use Rattle.terms.specs.Numbers.{same_number, truth}
 use Rattle.terms.specs.Terms.{fold, value}
-use Rattle.reckoning.specs.Kinds.{of_kind, is_kind, kind_given, kinds, kind_of, IsKinded}
-use Rattle.reckoning.specs.Evaluation.{Kindly}
+use Rattle.reckoning.specs.Kinds.{kind_given, kinds, kind_of, IsKinded}
 use Rattle.sheets.specs.declared.cell.Cell.{Cell}
-use Rattle.sheets.specs.Sheets.{CellTerm, Condition, part, cell_kind, is_bound, is_bounded, setting_term, Sets, is_true_term, Keeps}
+use Rattle.sheets.specs.Sheets.{CellTerm, Condition, part, cell_kind, setting_term, Sets, is_true_term, Keeps}
+use Rattle.sheets.proofs.Spanning.{is_its_kind}
 use Rattle.sheets.specs.Valuations.{cell_in, Within, GoalAloneFalse}
 
 clash : {X : Type 0} → false ≡ true → X
@@ -30,22 +30,6 @@ same_numbers a b e = grind (arith, ints)
 pub same_number_lem : (a b : ℤ) → a ≡ b → same_number a b ≡ true
 same_number_lem a b e = grind (arith, ints)
 
--- a number within bounds of a kind is of that kind
-of_kind_within : (k : Kind) (low high n : ℤ) → is_bound k low ≡ true → is_bound k high ≡ true → (int_le low n && int_le n high) ≡ true → of_kind k n ≡ true
-of_kind_within Number low high n l h e = refl
-of_kind_within Truth low high n l h e = grind (arith, ints)
-
--- a valuation's numbers are of their cells' kinds
-pub kindly : (cs : List Cell) (v : List ℤ) → list_all is_bounded cs ≡ true → Within cs v → (i : ℕ) → Kindly (cell_kind cs) (cell_in v) i
-kindly [] v all within i k is = absurd (let z : ◌≡◌ {A = ℕ} 0 1 = cc in omega arith)
-kindly (c ∷ cs) [] all within i k is = clash within
-kindly (c ∷ cs) (n ∷ v) all within zero k is =
-    let same : c.kind ≡ k = cc in
-    let bounds = and_parts _ _ (and_parts _ _ all).0 in
-    let ends = and_parts _ _ bounds.0 in
-    subst (λ j. of_kind j n ≡ true) same (of_kind_within c.kind c.low c.high n ends.0 ends.1 (and_parts _ _ within).0)
-kindly (c ∷ cs) (n ∷ v) all within (suc i) k is = kindly cs v (and_parts _ _ all).1 (and_parts _ _ within).1 i k is
-
 pub within_length : (cs : List Cell) (v : List ℤ) → Within cs v → length v ≡ length cs
 within_length [] [] within = refl
 within_length [] (n ∷ v) within = clash within
@@ -58,16 +42,8 @@ within_at (d ∷ cs) [] within i c is = clash within
 within_at (d ∷ cs) (n ∷ v) within zero c is = let same : d ≡ c = cc in subst (λ e. (int_le e.low n && int_le n e.high) ≡ true) same (and_parts _ _ within).0
 within_at (d ∷ cs) (n ∷ v) within (suc i) c is = within_at cs v (and_parts _ _ within).1 i c is
 
--- a term of a kind is known to be of it
-known_kind : (o : Option Kind) (k : Kind) → is_kind o k ≡ true → o ≡ Some k
-known_kind None k e = clash e
-known_kind (Some Number) Number e = refl
-known_kind (Some Number) Truth e = clash e
-known_kind (Some Truth) Number e = clash e
-known_kind (Some Truth) Truth e = refl
-
 pub truth_part : (s : Condition) → Keeps s → (p : ℕ) → p < length s.parts → IsKinded (cell_kind s.cells) Truth (part s p)
-truth_part s keeps p lt = known_kind _ Truth (at_each (is_true_term s.cells) s.parts p [] keeps.truths lt)
+truth_part s keeps p lt = is_its_kind _ Truth (at_each (is_true_term s.cells) s.parts p [] keeps.truths lt)
 
 -- the second operand of `equal!` has a kind
 equal_kind : (a b c : Option Kind) (k : Kind) → kind_given Equal a b c ≡ Some k → (j : Kind) × (b ≡ Some j)

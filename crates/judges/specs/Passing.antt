@@ -16,15 +16,16 @@ use Rattle.reckoning.specs.declared.decision.Decision.TheVariants.{Yes, No, Unkn
 use Rattle.reckoning.specs.Reckonings.{Meaning, Lawful}
 use Rattle.reckoning.specs.Kinds.{IsKinded}
 use Rattle.reckoning.specs.Comparing.{is_most}
-use Rattle.reckoning.specs.Evaluation.{Kindly, Covered}
+use Rattle.reckoning.specs.Evaluation.{Covered}
 use Rattle.reckoning.proofs.Covering.{covering}
 use Rattle.reckoning.proofs.Mentioning.{mentions_all}
 use Rattle.sheets.specs.declared.cell.Cell.{Cell}
 use Rattle.sheets.specs.Sheets.{CellTerm, Condition, part, cell_kind, set_by, is_some_of, is_set_by, cell_set, setting_term, Keeps}
 use Rattle.sheets.specs.Valuations.{cell_in, GoalAloneFalse, Falsifies}
+use Rattle.sheets.proofs.Spanning.{kindly}
 use Rattle.sheets.specs.Judges.{passed, Sound}
 use Rattle.judges.specs.Passes.{bounds_mark, marked, unless_no, after_part, by_goal, pass_or, pass_from, pass}
-use Rattle.judges.specs.Keeping.{kindly, within_at, truth_part, setting_kind, set_value}
+use Rattle.judges.specs.Keeping.{within_at, truth_part, setting_kind, set_value}
 
 none : {X A : Type 0} (x : A) → None ≡ Some x → X
 none x e = absurd (let z : ◌≡◌ {A = ℕ} 0 1 = cc in omega arith)
@@ -73,7 +74,7 @@ module _ (covers : Mark → ℤ → Type 0) (r : Meaning) (laws : Lawful covers 
 
   covered : (marks : List Mark) → Told marks → (e : CellTerm) (k : Kind) → IsKinded (cell_kind s.cells) k e → covers (marked r marks e) (value (cell_in v) e)
   covered marks told e k is =
-      covering covers r laws (slice_get marks) e (cell_kind s.cells) (cell_in v) k is (mentions_all (Kindly (cell_kind s.cells) (cell_in v)) (kindly s.cells v keeps.bounded f.0) e) (mentions_all (Covered covers (slice_get marks) (cell_in v)) told e)
+      covering covers r laws (slice_get marks) e (cell_kind s.cells) (cell_in v) k is (kindly s.cells v keeps.bounded f.0 e) (mentions_all (Covered covers (slice_get marks) (cell_in v)) told e)
 
   at_bounds : Told (map (bounds_mark r) s.cells)
   at_bounds i m is = go (slice_get s.cells i) refl (sym (slice_get-map (bounds_mark r) s.cells i) ∙ is)

@@ -1,5 +1,5 @@
 -- The trier: which valuations it tries, in which order, and what it answers.
-use Rattle.std.specs.Prelude.{ℕ, zero, suc, ◌+◌, ◌*◌, Bool, false, cond, ◌&&◌, List, [], ◌∷◌, ◌++◌, length, ℤ, pos, ◌+ℤ◌, ◌-ℤ◌, Some, None, Option, ◌==◌, filter, find, int_le, nat_le, unsigned_abs}
+use Rattle.std.specs.Prelude.{ℕ, zero, suc, ◌+◌, ◌*◌, Bool, false, cond, ◌&&◌, List, [], ◌∷◌, ◌++◌, length, ℤ, pos, ◌+ℤ◌, ◌-ℤ◌, Some, None, Option, ◌==◌, filter, find, nat_le, unsigned_abs}
 use Rattle.std.specs.List.{flat_map, list_any}
 use Rattle.terms.specs.declared.row.Row.{Row}
 use Rattle.terms.specs.declared.row.Row.TheVariants.{Constant, Mention, Operator as Applied}
@@ -9,7 +9,7 @@ use Rattle.reckoning.specs.declared.mark.Mark.{Mark}
 use Rattle.reckoning.specs.Ranges.{between}
 use Rattle.sheets.specs.declared.cell.Cell.{Cell}
 use Rattle.sheets.specs.Sheets.{CellTerm, Condition, part, setting_term}
-use Rattle.sheets.specs.Valuations.{cell_in}
+use Rattle.sheets.specs.Valuations.{cell_in, allows}
 use Rattle.sheets.specs.Judges.{Opinion, passed, failed, unsure}
 
 abbrev pub mentions : ℕ → Row ℕ → Bool
@@ -34,9 +34,6 @@ ascending n (suc more) = n ∷ ascending (n +ℤ pos 1) more
 abbrev pub above : ℤ → ℤ → List ℤ
 above n high = ascending (n +ℤ pos 1) (gap n high)
 
-abbrev pub is_inside : Cell → ℤ → Bool
-is_inside c n = int_le c.low n && int_le n c.high
-
 -- the greatest number that a cell is tried with: its high if no part sets it and it occurs, else its low
 abbrev pub top : Bool → Option ℕ → Cell → ℤ
 top occurs None c = cond occurs c.high c.low
@@ -45,7 +42,7 @@ top occurs (Some p) c = c.low
 -- the numbers that a cell takes after those of the lower cells: what the part that sets it says, if that is within its bounds, else all from its low to its top
 abbrev pub numbers : Condition → Option ℕ → Cell → List ℤ → List ℤ
 numbers s None c lower = c.low ∷ above c.low (top (occurs s.parts (length lower)) None c)
-numbers s (Some p) c lower = filter (is_inside c) (value (cell_in lower) (setting_term (part s p)) ∷ [])
+numbers s (Some p) c lower = filter (allows c) (value (cell_in lower) (setting_term (part s p)) ∷ [])
 
 -- the tries that begin with the numbers of the lower cells, in ascending order, the lowest cell slowest
 abbrev pub tries_from : Condition → List Cell → List ℤ → List (List ℤ)

@@ -15,9 +15,9 @@ use Rattle.reckoning.specs.Comparing.{is_most}
 use Rattle.reckoning.proofs.Mentioning.{value_agrees}
 use Rattle.sheets.specs.declared.cell.Cell.{Cell}
 use Rattle.sheets.specs.Sheets.{CellTerm, Condition, part, set_by, setting_term, is_below, is_bound, is_bounded, Sets, Keeps}
-use Rattle.sheets.specs.Valuations.{cell_in, Within, GoalAloneFalse, Falsifies}
+use Rattle.sheets.specs.Valuations.{cell_in, Within, GoalAloneFalse, Falsifies, allows}
 use Rattle.sheets.specs.Judges.{Opinion, passed, failed, unsure, Sound}
-use Rattle.judges.specs.Tries.{mentions, occurs, gap, ascending, above, is_inside, numbers, tries_from, is_refuted, proposed, trier}
+use Rattle.judges.specs.Tries.{mentions, occurs, gap, ascending, above, numbers, tries_from, is_refuted, proposed, trier}
 use Rattle.judges.specs.Keeping.{at_each, same_numbers, same_number_lem, within_length, within_at, set_value, part_true}
 use Rattle.judges.specs.Passing.{at_place, set_by_at}
 
@@ -146,7 +146,7 @@ module _ (s : Condition) (keeps : Keeps s) (v : List ℤ) (f : Falsifies s v) wh
   next c lower at all (Some p) is =
       let told = setting lower all p (keeps.setting p (length lower) is) in
       let inside = within_at s.cells v f.0 (length lower) c at in
-      (cell_in v (length lower), subst (λ n. Among (cell_in v (length lower)) (filter (is_inside c) (n ∷ []))) (sym told) (subst (λ b. Among (cell_in v (length lower)) (cond b (cell_in v (length lower) ∷ []) [])) (sym inside) (inl refl)), λ t. refl)
+      (cell_in v (length lower), subst (λ n. Among (cell_in v (length lower)) (filter (allows c) (n ∷ []))) (sym told) (subst (λ b. Among (cell_in v (length lower)) (cond b (cell_in v (length lower) ∷ []) [])) (sym inside) (inl refl)), λ t. refl)
 
   -- all agree at the end
   refuted : (w : List ℤ) → length w ≡ length s.cells → Agrees w → is_refuted w s.parts ≡ true
@@ -186,23 +186,23 @@ refutes v [] e = clash e
 refutes v (g ∷ []) e = same_numbers _ _ e
 refutes v (g ∷ h ∷ es) e = let t = and_parts _ _ e in (same_numbers _ _ t.0, refutes v (h ∷ es) t.1)
 
-pub within_push : (ds : List Cell) (w : List ℤ) (c : Cell) (n : ℤ) → Within ds w → is_inside c n ≡ true → Within (ds ++ c ∷ []) (w ++ n ∷ [])
+pub within_push : (ds : List Cell) (w : List ℤ) (c : Cell) (n : ℤ) → Within ds w → allows c n ≡ true → Within (ds ++ c ∷ []) (w ++ n ∷ [])
 within_push [] [] c n within inside = and_from _ _ inside refl
 within_push [] (m ∷ w) c n within inside = clash within
 within_push (d ∷ ds) [] c n within inside = clash within
 within_push (d ∷ ds) (m ∷ w) c n within inside = let t = and_parts _ _ within in and_from _ _ t.0 (within_push ds w c n t.1 inside)
 
 -- a cell is tried with numbers within its bounds
-pub number_inside : (s : Condition) (o : Option ℕ) (c : Cell) (lower : List ℤ) (n : ℤ) → int_le c.low c.high ≡ true → Among n (numbers s o c lower) → is_inside c n ≡ true
+pub number_inside : (s : Condition) (o : Option ℕ) (c : Cell) (lower : List ℤ) (n : ℤ) → int_le c.low c.high ≡ true → Among n (numbers s o c lower) → allows c n ≡ true
 number_inside s None c lower n up h = go (occurs s.parts (length lower)) h
   where
-    go : (b : Bool) → Among n (c.low ∷ above c.low (cond b c.high c.low)) → is_inside c n ≡ true
+    go : (b : Bool) → Among n (c.low ∷ above c.low (cond b c.high c.low)) → allows c n ≡ true
     go true h = let r = above_within n c.low c.high (is_most _ _ up) h in grind (arith, ints, r.0, r.1)
     go false h = let r = above_within n c.low c.low (omega (arith, ints)) h in grind (arith, ints, r.0, r.1)
-number_inside s (Some p) c lower n up h = go (is_inside c (value (cell_in lower) (setting_term (part s p)))) refl h
+number_inside s (Some p) c lower n up h = go (allows c (value (cell_in lower) (setting_term (part s p)))) refl h
   where
-    go : (b : Bool) → is_inside c (value (cell_in lower) (setting_term (part s p))) ≡ b → Among n (cond b (value (cell_in lower) (setting_term (part s p)) ∷ []) []) → is_inside c n ≡ true
-    go true is h = elim h [ inl same ↦ ap (is_inside c) (sym same) ∙ is | inr none ↦ absurd none ]
+    go : (b : Bool) → allows c (value (cell_in lower) (setting_term (part s p))) ≡ b → Among n (cond b (value (cell_in lower) (setting_term (part s p)) ∷ []) []) → allows c n ≡ true
+    go true is h = elim h [ inl same ↦ ap (allows c) (sym same) ∙ is | inr none ↦ absurd none ]
     go false is h = absurd h
 
 module _ (s : Condition) (keeps : Keeps s) where

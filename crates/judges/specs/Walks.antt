@@ -1,12 +1,12 @@
 -- The trier's way from try to try: what is left of the tries at each step.
-use Rattle.std.specs.Prelude.{◌≡◌, ℕ, zero, suc, ◌+◌, ◌<◌, ◌≤◌, Bool, true, false, cond, List, [], ◌∷◌, ◌++◌, length, take, drop, ℤ, pos, ◌+ℤ◌, Some, None, Option, int_lt, slice_index_or, slice_set}
+use Rattle.std.specs.Prelude.{◌≡◌, ℕ, zero, suc, ◌+◌, ◌<◌, ◌≤◌, cond, List, [], ◌∷◌, ◌++◌, length, take, drop, ℤ, pos, ◌+ℤ◌, Some, None, Option, int_lt, slice_index_or, slice_set}
 use Rattle.std.specs.List.{flat_map}
 use Rattle.terms.specs.Terms.{value}
 use Rattle.reckoning.specs.declared.mark.Mark.{Mark}
 use Rattle.sheets.specs.declared.cell.Cell.{Cell}
-use Rattle.sheets.specs.Sheets.{CellTerm, Condition, part, setting_term}
-use Rattle.sheets.specs.Valuations.{cell_in}
-use Rattle.judges.specs.Tries.{occurs, above, is_inside, top, ranges, is_refuted}
+use Rattle.sheets.specs.Sheets.{Condition, part, setting_term}
+use Rattle.sheets.specs.Valuations.{cell_in, allows}
+use Rattle.judges.specs.Tries.{occurs, above, top, ranges, is_refuted}
 
 -- a try with all its numbers, or none where a set cell leaves its bounds
 abbrev pub Try : Type 0
@@ -14,7 +14,7 @@ Try = Option (List ℤ)
 
 abbrev pub next_from : (List ℤ → List Try) → Condition → Option ℕ → Cell → List ℤ → List Try
 next_from go s None c lower = flat_map (λ n. go (lower ++ n ∷ [])) (c.low ∷ above c.low (top (occurs s.parts (length lower)) None c))
-next_from go s (Some p) c lower = cond (is_inside c (value (cell_in lower) (setting_term (part s p)))) (go (lower ++ value (cell_in lower) (setting_term (part s p)) ∷ [])) (None ∷ [])
+next_from go s (Some p) c lower = cond (allows c (value (cell_in lower) (setting_term (part s p)))) (go (lower ++ value (cell_in lower) (setting_term (part s p)) ∷ [])) (None ∷ [])
 
 -- the tries that begin with the numbers of the lower cells, those among them that end early
 abbrev pub walk : Condition → List Cell → List ℤ → List Try
@@ -47,7 +47,7 @@ module _ (s : Condition) (rs : List Mark) where
 -- the number that a cell begins with after those of the lower cells, none where a set cell leaves its bounds
 abbrev pub begun : Condition → Option ℕ → Cell → List ℤ → Option ℤ
 begun s None c v = Some c.low
-begun s (Some p) c v = cond (is_inside c (value (cell_in v) (setting_term (part s p)))) (Some (value (cell_in v) (setting_term (part s p)))) None
+begun s (Some p) c v = cond (allows c (value (cell_in v) (setting_term (part s p)))) (Some (value (cell_in v) (setting_term (part s p)))) None
 
 -- the highest of the first i cells that is not at the end of its range
 abbrev pub turning : List Mark → List ℤ → ℕ → Option ℕ

@@ -11,7 +11,5 @@ use sheets::sheet::Sheet;
 pub(super) fn is_enough(sheet: &Sheet<'_>, valuation: &[i64], working: &[Mark]) -> bool
     ensures { result ≡ has_room (length (cells_in sheet.now)) (marks_for sheet.now) valuation.now working.now }
 {
-    let cells = sheet.cells().len();
-    let rows = sheet.rows().len();
-    cells <= valuation.len() && cells <= working.len() && rows <= working.len() - cells
+    sheet.cells().len() <= valuation.len() && sheet.marks() <= working.len()
 }

@@ -4,7 +4,7 @@ ghost use Rattle.std.specs.Prelude.{◌≡◌, ◌+◌, ◌<◌, ◌≤◌, [], 
 ghost use Rattle.sheets.specs.Sheets.{set_by};
 ghost use Rattle.sheets.specs.Places.{cells_in, rows_in, says};
 ghost use Rattle.sheets.specs.Valuations.{Within};
-ghost use Rattle.judges.specs.Tries.{is_inside as is_inside_of, is_refuted as is_refuted_of, ranges as ranges_of};
+ghost use Rattle.judges.specs.Tries.{is_refuted as is_refuted_of, ranges as ranges_of};
 ghost use Rattle.judges.specs.Ranging.{no_cell};
 ghost use Rattle.judges.specs.Walks.{walk, first, later, left, begun, turning, Turned, Followed};
 
@@ -24,12 +24,6 @@ pub(super) fn start(cells: &[Cell], valuation: &mut [i64])
     }
 }
 
-fn is_inside(cell: Cell, number: i64) -> bool
-    ensures { result ≡ is_inside_of cell number }
-{
-    (cell.low..=cell.high).contains(&number)
-}
-
 // The number that a cell begins with, `None` where a part sets it to one out of its bounds.
 fn begin(sheet: &Sheet<'_>, cell: usize, valuation: &[i64], stack: &mut [Mark]) -> Option<i64>
     requires cell { cell < length (cells_in sheet.now) }
@@ -42,7 +36,7 @@ fn begin(sheet: &Sheet<'_>, cell: usize, valuation: &[i64], stack: &mut [Mark]) 
         return Some(cell.low);
     };
     let number = number_of(valuation, setting_term(sheet.part(place)), stack);
-    is_inside(cell, number).then_some(number)
+    cell.allows(number).then_some(number)
 }
 
 // Gives the cells from a place on the numbers that they begin with, and tells the place of the one that has none, or how many cells there are.

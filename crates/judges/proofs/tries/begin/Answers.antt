@@ -1,6 +1,6 @@
-use Rattle.std.proofs.Common.{◌≡◌, ℕ, ◌<◌, ◌≤◌, length, get_or, Some, sym, ap, ap₂, ◌∙◌, subst, arith, rules}
+use Rattle.std.proofs.Common.{◌≡◌, ◌≤◌, length, get_or, Some, sym, ap, ◌∙◌, subst, arith, rules}
 use Rattle.reckoning.specs.Exactness.{Spans}
-use Rattle.sheets.specs.Sheets.{part, set_by, setting_term}
+use Rattle.sheets.specs.Sheets.{part, setting_term}
 use Rattle.sheets.specs.Places.{cells_in, rows_in, parts_in, says}
 use Rattle.sheets.specs.Valuations.{cell_in}
 use Rattle.sheets.proofs.Keeping.{keeps_from}

@@ -1,5 +1,4 @@
-use Rattle.std.proofs.Common.{◌≡◌, ◌<◌, ◌≤◌, ℕ, true, false, length, Some, sym, ap, ◌∙◌, subst, arith, rules}
-use Rattle.std.proofs.lemmas.Bool.{true≢false}
+use Rattle.std.proofs.Common.{◌≡◌, ◌<◌, ◌≤◌, false, length, sym, ap, ◌∙◌, subst, arith, rules}
 use Rattle.sheets.specs.Places.{cells_in, says}
 use Rattle.sheets.specs.Valuations.{Within}
 use Rattle.sheets.proofs.Keeping.{keeps_from}
@@ -37,10 +36,10 @@ next_try c =
     let w = c.follow-ended.new.valuation in
     let going = subst (λ n. Going s n c.loop-next.valuation) c.in-Some.is c.loop-next.invariant.going in
     let fails : c.follow-ended.result ≡ length s.cells → is_refuted w s.parts ≡ false =
-        elim c.else-ended-cells.branch [
-          | else-ended-cells-via-then-ended-cells+else-is_refuted t ↦ λ _. sym t.is_refuted.ensures ∙ t.if-is_refuted.false
-          | else-ended-cells-via-else-ended-cells t ↦ λ e. absurd (t.if-ended-cells.false (e ∙ sym (ap length c.cells.ensures)))
-        ] in
+    elim c.else-ended-cells.branch [
+      | else-ended-cells-via-then-ended-cells+else-is_refuted t ↦ λ _. sym t.is_refuted.ensures ∙ t.if-is_refuted.false
+      | else-ended-cells-via-else-ended-cells t ↦ λ e. absurd (t.if-ended-cells.false (e ∙ sym (ap length c.cells.ensures)))
+    ] in
     let turned : Turned (turning (ranges s.parts 0 s.cells) w c.follow-ended.result) w c.turn-next.result c.turn-next.new.valuation = subst (λ rs. Turned (turning rs w c.follow-ended.result) w c.turn-next.result c.turn-next.new.valuation) c.requires.ranges c.turn-next.ensures in
     let all = proceeds s (keeps_from s c.args.sheet.now.kept) c.loop-next.valuation w c.in-Some.from c.follow-ended.result going c.follow-ended.ensures.followed c.follow-ended.ensures.within fails c.turn-next.result c.turn-next.new.valuation turned in
     (all.0, all.1, subst (λ n. to_go s c.turn-next.result c.turn-next.new.valuation < to_go s n c.loop-next.valuation) (sym c.in-Some.is) all.2)

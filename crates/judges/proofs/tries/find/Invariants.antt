@@ -1,10 +1,5 @@
-use Rattle.std.proofs.Common.{◌≡◌, ◌≤◌, ℕ, suc, List, length, [], Some, None, Option, ℤ}
-use Rattle.reckoning.specs.declared.mark.Mark.{Mark}
-use Rattle.sheets.specs.Sheets.{Condition}
 use Rattle.sheets.specs.Valuations.{Within}
 use Rattle.sheets.specs.Places.{cells_in, says}
-use Rattle.judges.specs.Tries.{ranges}
-use Rattle.judges.specs.Walks.{walk, first}
 use Rattle.judges.proofs.Finding.{Going, to_go}
 use Rattle.judges.proofs.tries.find.Given as goal
 

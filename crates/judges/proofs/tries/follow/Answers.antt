@@ -1,7 +1,7 @@
-use Rattle.std.proofs.Common.{◌≡◌, ◌+◌, ◌<◌, ◌≤◌, length, get_or, set, Some, None, sym, ◌∙◌, subst, arith, w64, SFits, to_z, of_z, rules}
+use Rattle.std.proofs.Common.{◌≡◌, ◌+◌, ◌<◌, length, get_or, set, Some, None, sym, ◌∙◌, subst, arith, w64, SFits, rules}
 use Rattle.std.proofs.lemmas.Int.{to_z-of_z}
 use Rattle.sheets.specs.Sheets.{set_by}
-use Rattle.sheets.specs.Places.{cells_in, says}
+use Rattle.sheets.specs.Places.{says}
 use Rattle.sheets.specs.Valuations.{Within}
 use Rattle.sheets.proofs.Keeping.{keeps_from}
 use Rattle.judges.specs.Tries.{ranges}

@@ -1,4 +1,4 @@
-use Rattle.std.proofs.Common.{◌≡◌, ◌-◌, ◌<◌, ◌≤◌, [], length, map, get_or, sym, ap, ◌∙◌, subst, arith, w64, SFits, rules}
+use Rattle.std.proofs.Common.{◌≡◌, ◌<◌, [], length, get_or, sym, ◌∙◌, subst, w64, SFits, rules}
 use Rattle.std.proofs.lemmas.List.{get_or-map, length-map}
 use Rattle.reckoning.specs.Exactness.{Spans}
 use Rattle.sheets.specs.Sheets.{part, part_in}
