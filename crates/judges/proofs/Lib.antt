@@ -9,3 +9,4 @@ mod Spanning
 mod Refuting
 mod Turning
 mod Following
+mod Telling

@@ -6,4 +6,5 @@ pub mod pass;
 mod ranges;
 pub mod relay;
 mod room;
+pub mod trier;
 mod tries;
