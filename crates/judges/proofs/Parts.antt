@@ -8,8 +8,9 @@ use Rattle.reckoning.specs.Reckonings.{Meaning}
 use Rattle.terms.specs.declared.row.Row.{Row}
 use Rattle.sheets.specs.declared.part.Part.{Part}
 use Rattle.sheets.specs.Sheets.{CellTerm, Condition, part_in, cell_set}
+use Rattle.sheets.specs.declared.judge.Answer.TheVariants.{Pass}
 use Rattle.sheets.specs.Judges.{Opinion, passed}
-use Rattle.judges.specs.Passes.{marked, after_part, Left, by_goal, pass_or, pass_from}
+use Rattle.judges.specs.Passes.{marked, after_part, Left, by_goal, pass_or, pass_from, answer_of}
 
 module _ (r : Meaning) (c : Condition) (es : List CellTerm) (p : ℕ) (marks : List Mark) where
   pub pass_more : p + 1 < length es → pass_from r c p (drop p es) marks ≡ pass_or (after_part r (cell_set c p) (get_or es p []) marks) (pass_from r c (p + 1) (drop (p + 1) es))
@@ -35,12 +36,13 @@ module _ (r : Meaning) (c : Condition) (rows : List (Row ℕ)) (ps : List Part) 
   abbrev es : List CellTerm
   es = map (part_in rows) ps
 
-  pub step : p < length ps → (p ≡ length ps - 1 → ⊥) → e ≡ part_in rows (get_or ps p none) → set ≡ cell_set c p → Left (after_part r set e marks) told left
-      → (is_some told ≡ false → passed ≡ pass_from r c p (drop p es) marks) × (is_some told ≡ true → pass_from r c (p + 1) (drop (p + 1) es) left ≡ pass_from r c p (drop p es) marks)
-  step lt more is sets h =
+  -- a part is taken in, where what is left from it on says so much
+  pub step : (all : Opinion) → pass_from r c p (drop p es) marks ≡ all → p < length ps → (p ≡ length ps - 1 → ⊥) → e ≡ part_in rows (get_or ps p none) → set ≡ cell_set c p → Left (after_part r set e marks) told left
+      → (is_some told ≡ false → Pass ≡ answer_of all) × (is_some told ≡ true → pass_from r c (p + 1) (drop (p + 1) es) left ≡ all)
+  step all so_far lt more is sets h =
       let at : e ≡ get_or es p [] = is ∙ sym (get_or-map (part_in rows) ps p none [] lt) in
       let long : length es ≡ length ps = length-map ps (part_in rows) in
       let opened = pass_more r c es p marks (omega arith) in
       let same : after_part r set e marks ≡ after_part r (cell_set c p) (get_or es p []) marks = ap₂ (λ s t. after_part r s t marks) sets at in
       let g = goes (after_part r (cell_set c p) (get_or es p []) marks) (pass_from r c (p + 1) (drop (p + 1) es)) told left (subst (λ o. Left o told left) same h) in
-      (λ f. sym (opened ∙ g.0 f), λ t. g.1 t ∙ sym opened)
+      (λ f. ap answer_of (sym (g.0 f) ∙ sym opened ∙ so_far), λ t. g.1 t ∙ sym opened ∙ so_far)

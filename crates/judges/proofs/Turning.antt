@@ -1,20 +1,17 @@
 -- The cell that turns: its number grows by one.
-use Rattle.std.proofs.Common.{◌≡◌, ℕ, suc, ◌+◌, ◌-◌, ◌<◌, true, List, get_or, set, ℤ, pos, ◌+ℤ◌, Some, sym, ap, ap₂, ◌∙◌, subst, refl, arith, w64, SFits, to_z, of_z}
-use Rattle.std.specs.Prelude.{int_lt}
-use Rattle.std.proofs.lemmas.Int.{ints, to_z-of_z}
-use Rattle.std.proofs.lemmas.Bool.{cond-true}
+use Rattle.std.proofs.Common.{◌≡◌, ℕ, suc, ◌+◌, ◌-◌, ◌<◌, true, false, List, ℤ, Some, sym, ap, ◌∙◌, subst, refl, arith}
+use Rattle.std.proofs.lemmas.Bool.{cond-true, cond-false}
 use Rattle.reckoning.specs.declared.mark.Mark.{Mark}
-use Rattle.judges.specs.Walks.{no_range, turning, Turned}
+use Rattle.judges.specs.Walks.{is_open, stepped, turning, Turned}
 
--- one more than what lies below some number that fits
-pub one_more : (n high : ℤ) → SFits w64 n → SFits w64 high → int_lt n high ≡ true → to_z w64 (of_z w64 (to_z w64 (of_z w64 n) +ℤ pos 1)) ≡ n +ℤ pos 1
-one_more n high fn fh less =
-    let f : SFits w64 (n +ℤ pos 1) = grind (arith, ints) in
-    simp to_z-of_z
+module _ (rs : List Mark) (v w : List ℤ) (i ended : ℕ) (some : 0 < i) (so_far : turning rs v i ≡ turning rs v ended) (same : w ≡ v) where
+  back : suc (i - 1) ≡ i
+  back = omega arith
 
-pub turned_here : (rs : List Mark) (v w : List ℤ) (i ended : ℕ) (n : ℤ) → 0 < i → turning rs v i ≡ turning rs v ended → int_lt (get_or v (i - 1) (pos 0)) (get_or rs (i - 1) no_range).high ≡ true → w ≡ v → n ≡ get_or v (i - 1) (pos 0) +ℤ pos 1
-    → Turned (turning rs v ended) v (Some (i - 1 + 1)) (set w (i - 1) n)
-turned_here rs v w i ended n some so_far less same is =
-    let back : suc (i - 1) ≡ i = omega arith in
-    let here : turning rs v i ≡ Some (i - 1) = ap (turning rs v) (sym back) ∙ cond-true _ _ _ less in
-    subst (λ o. Turned o v (Some (i - 1 + 1)) (set w (i - 1) n)) (sym here ∙ so_far) (refl, ap₂ (λ l m. set l (i - 1) m) same is)
+  pub turned_here : (after : List ℤ) → true ≡ is_open rs w (i - 1) → after ≡ stepped w (i - 1) → Turned (turning rs v ended) v (Some (i - 1 + 1)) after
+  turned_here after h is =
+      let here : turning rs v i ≡ Some (i - 1) = ap (turning rs v) (sym back) ∙ cond-true _ _ _ (ap (λ l. is_open rs l (i - 1)) (sym same) ∙ sym h) in
+      subst (λ o. Turned o v (Some (i - 1 + 1)) after) (sym here ∙ so_far) (refl, is ∙ ap (λ l. stepped l (i - 1)) same)
+
+  pub not_here : false ≡ is_open rs w (i - 1) → turning rs v (i - 1) ≡ turning rs v ended
+  not_here h = sym (ap (turning rs v) (sym back) ∙ cond-false _ _ _ (ap (λ l. is_open rs l (i - 1)) (sym same) ∙ sym h)) ∙ so_far

@@ -1,5 +1,5 @@
 -- The trier's way from try to try: what is left of the tries at each step.
-use Rattle.std.specs.Prelude.{◌≡◌, ℕ, zero, suc, ◌+◌, ◌<◌, ◌≤◌, cond, List, [], ◌∷◌, ◌++◌, length, take, drop, ℤ, pos, ◌+ℤ◌, Some, None, Option, int_lt, slice_index_or, slice_set}
+use Rattle.std.specs.Prelude.{◌≡◌, ℕ, zero, suc, ◌+◌, ◌<◌, ◌≤◌, cond, List, [], ◌∷◌, ◌++◌, length, take, drop, ℤ, pos, ◌+ℤ◌, Some, None, Option, int_lt, slice_index_or, slice_set, Bool}
 use Rattle.std.specs.List.{flat_map}
 use Rattle.terms.specs.Terms.{value}
 use Rattle.reckoning.specs.declared.mark.Mark.{Mark}
@@ -49,15 +49,23 @@ abbrev pub begun : Condition → Option ℕ → Cell → List ℤ → Option ℤ
 begun s None c v = Some c.low
 begun s (Some p) c v = cond (allows c (value (cell_in v) (setting_term (part s p)))) (Some (value (cell_in v) (setting_term (part s p)))) None
 
+-- a cell that is not at the end of its range
+abbrev pub is_open : List Mark → List ℤ → ℕ → Bool
+is_open rs v i = int_lt (slice_index_or v i (pos 0)) (slice_index_or rs i no_range).high
+
+-- a cell at its next number
+abbrev pub stepped : List ℤ → ℕ → List ℤ
+stepped v i = slice_set v i (slice_index_or v i (pos 0) +ℤ pos 1)
+
 -- the highest of the first i cells that is not at the end of its range
 abbrev pub turning : List Mark → List ℤ → ℕ → Option ℕ
 turning rs v zero = None
-turning rs v (suc i) = cond (int_lt (slice_index_or v i (pos 0)) (slice_index_or rs i no_range).high) (Some i) (turning rs v i)
+turning rs v (suc i) = cond (is_open rs v i) (Some i) (turning rs v i)
 
 -- a call turns that cell to its next number, and tells the place after it
 abbrev pub Turned : Option ℕ → List ℤ → Option ℕ → List ℤ → Type 0
 Turned None v next after = (next ≡ None) × (after ≡ v)
-Turned (Some i) v next after = (next ≡ Some (i + 1)) × (after ≡ slice_set v i (slice_index_or v i (pos 0) +ℤ pos 1))
+Turned (Some i) v next after = (next ≡ Some (i + 1)) × (after ≡ stepped v i)
 
 -- a call gives the cells from a place on their numbers, as far as they have some: no try is left out, and where a cell has none its try ends
 pub record Followed (s : Condition) (from : ℕ) (v : List ℤ) (place : ℕ) (after : List ℤ) : Type 0 where

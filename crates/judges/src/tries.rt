@@ -1,12 +1,13 @@
 // Tries: the valuations that the trier goes through, each from the one before it.
 
 ghost use Rattle.std.specs.Prelude.{◌≡◌, ◌+◌, ◌<◌, ◌≤◌, [], ◌∷◌, true, false, length, map, drop, take, pos, slice_index_or, Some, None};
+ghost use Rattle.std.specs.Bool.{OnTrue, OnFalse};
 ghost use Rattle.sheets.specs.Sheets.{set_by};
 ghost use Rattle.sheets.specs.Places.{cells_in, rows_in, says};
 ghost use Rattle.sheets.specs.Valuations.{Within};
 ghost use Rattle.judges.specs.Tries.{is_refuted as is_refuted_of, ranges as ranges_of};
 ghost use Rattle.judges.specs.Ranging.{no_cell};
-ghost use Rattle.judges.specs.Walks.{walk, first, later, left, begun, turning, Turned, Followed};
+ghost use Rattle.judges.specs.Walks.{walk, first, later, left, begun, is_open, stepped, turning, Turned, Followed};
 
 use super::number::number_of;
 use reckoning::mark::Mark;
@@ -76,6 +77,21 @@ fn is_refuted(sheet: &Sheet<'_>, valuation: &[i64], stack: &mut [Mark]) -> bool
     false
 }
 
+// Turns a cell to the next number of its range, and tells whether there is one.
+fn step(ranges: &[Mark], cell: usize, valuation: &mut [i64]) -> bool
+    requires range { cell < length ranges.now }
+    requires number { cell < length valuation.old }
+    ensures told { result ≡ is_open ranges.now valuation.old cell }
+    ensures stepped { OnTrue result (valuation.new ≡ stepped valuation.old cell) }
+    ensures kept { OnFalse result (valuation.new ≡ valuation.old) }
+{
+    let is_open = valuation[cell] < ranges[cell].high;
+    if is_open {
+        valuation[cell] += 1;
+    }
+    is_open
+}
+
 // Turns the highest cell below a place that is not at the end of its range, and tells the place after it.
 fn turn(ranges: &[Mark], ended: usize, valuation: &mut [i64]) -> Option<usize>
     requires ended { ended ≤ length valuation.old }
@@ -83,8 +99,7 @@ fn turn(ranges: &[Mark], ended: usize, valuation: &mut [i64]) -> Option<usize>
     ensures { Turned (turning ranges.now valuation.old ended) valuation.old result valuation.new }
 {
     for i in (0..ended).rev() {
-        if valuation[i] < ranges[i].high {
-            valuation[i] += 1;
+        if step(ranges, i, valuation) {
             return Some(i + 1);
         }
     }

@@ -5,5 +5,5 @@ use Rattle.judges.proofs.tries.turn.Given as goal
 abbrev pub invariant-loop-i : goal.invariant-loop-i
 invariant-loop-i l = record {
   same : l.valuation ≡ l.initial.valuation;
-  turning : turning l.ranges l.valuation l.i ≡ turning l.ranges l.valuation l.ended;
+  turning : turning l.ranges l.initial.valuation l.i ≡ turning l.ranges l.initial.valuation l.ended;
 }
