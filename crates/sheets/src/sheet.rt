@@ -93,7 +93,7 @@ impl<'a> Sheet<'a> {
     pub fn marks(&self) -> usize
         ensures { result ≡ marks_for self.now }
     {
-        self.tables.cells.len() + self.tables.rows.len()
+        self.cells().len() + self.rows().len()
     }
 
     // The rows of a part, none past the last.
@@ -107,7 +107,7 @@ impl<'a> Sheet<'a> {
     fn is_set_by(&self, cell: usize, place: usize) -> bool
         ensures { result ≡ is_some_of place (set_by (cells_in self.now) cell) }
     {
-        self.tables.cells.get(cell).and_then(|cell| cell.set_by) == Some(place)
+        self.cells().get(cell).and_then(|cell| cell.set_by) == Some(place)
     }
 
     // The cell that a part sets: the one that it begins with `equal!` of, if that is said to be set by it.
