@@ -1,6 +1,5 @@
 -- What a judge that has room replies.
-use Rattle.std.proofs.Common.{◌≡◌, ℕ, ◌+◌, true, List, [], ◌∷◌, ◌++◌, length, take, drop, replicate, map, ℤ, pos, Some, None, Option, ◌∙◌, ◌≤◌, sym, ap, subst, refl}
-use Rattle.std.proofs.lemmas.List.{take_at, drop_at, length-take-le, length-replicate}
+use Rattle.std.proofs.Common.{List, None, Option, Some, [], ap, arith, drop, length, map, min, pos, refl, replicate, subst, sym, take, true, ℕ, ℤ, ◌+◌, ◌∙◌, ◌∷◌, ◌≡◌, ◌≤◌}
 use Rattle.std.proofs.lemmas.Bool.{true≢false, and_parts, leb-true}
 use Rattle.reckoning.specs.declared.mark.Mark.{Mark}
 use Rattle.reckoning.specs.declared.decision.Decision.{Decision}
@@ -11,14 +10,9 @@ use Rattle.sheets.specs.Sheets.{CellTerm, Condition, cell_set}
 use Rattle.sheets.specs.Judges.{Opinion, Told, has_room, Replied}
 use Rattle.judges.specs.Passes.{bounds_mark, marked, after_part, by_goal, pass_or, pass_from, pass, answer_of}
 
--- the front of the valuation is told, and its rest stays
-pub replied : (o : Opinion) (cells marks : ℕ) (v : List ℤ) (w : List Mark) (a : Answer) (front : List ℤ) (left : List Mark) → has_room cells marks v w ≡ true → length front ≡ cells → Told cells o a front → length left ≡ length w → Replied o cells marks v w a (front ++ drop cells v) left
-replied o cells marks v w a front left room long told same = record {
-  told = λ e. subst (Told cells o a) (sym (take_at front (drop cells v) cells long)) told;
-  short = λ e. absurd (true≢false (sym room ∙ e));
-  rest = drop_at front (drop cells v) cells long;
-  working = same;
-}
+-- with room, the valuation begins with what is told, and its rest stays
+pub replied : (o : Opinion) (cells marks : ℕ) (v : List ℤ) (w : List Mark) (a : Answer) (after : List ℤ) (left : List Mark) → has_room cells marks v w ≡ true → Told cells o a (take cells after) → drop cells after ≡ drop cells v → length left ≡ length w → Replied o cells marks v w a after left
+replied o cells marks v w a after left room told rest same = record { told = λ e. told; short = λ e. absurd (true≢false (sym room ∙ e)); rest = rest; working = same }
 
 -- the pass proposes nothing
 module _ (r : Meaning) (c : Condition) (n : ℕ) where
@@ -39,22 +33,19 @@ module _ (r : Meaning) (c : Condition) (n : ℕ) where
       go None rest = (refl, refl)
       go (Some ms) rest = rest ms
 
--- the front of a valuation buffer that holds 0 for each cell
-pub zeros : (n : ℕ) (v front : List ℤ) → n ≤ length v → front ≡ replicate (length (take n v)) (pos 0) → front ≡ replicate n (pos 0)
-zeros n v front le e = e ∙ ap (λ k. replicate k (pos 0)) (length-take-le n v le)
-
 -- there are as many numbers as cells
 pub has_numbers : (cells marks : ℕ) (v : List ℤ) (w : List Mark) → has_room cells marks v w ≡ true → cells ≤ length v
 has_numbers cells marks v w room = leb-true _ _ (and_parts _ _ room).0
 
 -- what the pass replies
-pub pass_replied : (r : Meaning) (c : Condition) (marks : ℕ) (v : List ℤ) (w : List Mark) (a : Answer) (front : List ℤ) (begun left : List Mark) (n : ℕ) → n ≡ length c.cells → has_room (length c.cells) marks v w ≡ true
-    → front ≡ replicate (length (take n v)) (pos 0) → begun ≡ map (bounds_mark r) c.cells → a ≡ answer_of (pass_from r c 0 c.parts begun) → length left ≡ length w
-    → Replied (pass r c) (length c.cells) marks v w a (front ++ drop n v) left
-pass_replied r c marks v w a front begun left n count room filled start told same =
-    let here : has_room n marks v w ≡ true = ap (λ k. has_room k marks v w) count ∙ room in
-    let all = zeros n v front (has_numbers n marks v w here) filled in
+pub pass_replied : (r : Meaning) (c : Condition) (marks : ℕ) (v : List ℤ) (w : List Mark) (a : Answer) (after : List ℤ) (begun left : List Mark) → has_room (length c.cells) marks v w ≡ true
+    → take (length c.cells) after ≡ replicate (min (length c.cells) (length v)) (pos 0) → drop (length c.cells) after ≡ drop (length c.cells) v → begun ≡ map (bounds_mark r) c.cells → a ≡ answer_of (pass_from r c 0 c.parts begun) → length left ≡ length w
+    → Replied (pass r c) (length c.cells) marks v w a after left
+pass_replied r c marks v w a after begun left room cleared rest start told same =
+    let n = length c.cells in
+    let enough = has_numbers n marks v w room in
+    let few : min n (length v) ≡ n = omega arith in
+    let zeros : take n after ≡ replicate n (pos 0) = cleared ∙ ap (λ k. replicate k (pos 0)) few in
     let is : a ≡ answer_of (pass r c) = told ∙ ap (λ m. answer_of (pass_from r c 0 c.parts m)) start in
-    subst (λ k. Replied (pass r c) k marks v w a (front ++ drop n v) left) count
-    (replied (pass r c) n marks v w a front left here (ap length all ∙ length-replicate n (pos 0))
-    (subst (Told n (pass r c) a) (sym all) (subst (λ b. Told n (pass r c) b (replicate n (pos 0))) (sym is) (silent r c n 0 c.parts (map (bounds_mark r) c.cells)))) same)
+    replied (pass r c) n marks v w a after left room
+    (subst (Told n (pass r c) a) (sym zeros) (subst (λ b. Told n (pass r c) b (replicate n (pos 0))) (sym is) (silent r c n 0 c.parts (map (bounds_mark r) c.cells)))) rest same

@@ -5,6 +5,5 @@ mod number;
 pub mod pass;
 mod ranges;
 pub mod relay;
-mod room;
 pub mod trier;
 mod tries;

@@ -5,14 +5,13 @@ ghost use Rattle.sheets.specs.Places.{cells_in, rows_in, says};
 ghost use Rattle.judges.specs.Passes.{bounds_mark, marked, after_part, Left, by_goal, answer_of, pass as passes, pass_from};
 ghost use Rattle.judges.specs.Passing.{pass_sound};
 
-use super::room;
 use reckoning::decision::Decision;
 use reckoning::evaluation::evaluate;
 use reckoning::mark::Mark;
 use reckoning::mentions::Cells;
 use reckoning::reckoning::Reckoning;
 use sheets::cell::{Cell, CellRow};
-use sheets::judge::{Answer, Judge};
+use sheets::judge::{Answer, Judge, clear, has_room};
 use sheets::setting::setting_term;
 use sheets::sheet::Sheet;
 
@@ -119,11 +118,11 @@ impl<R: Reckoning> Judge for Pass<R> {
     ghost sound = { λ s. pass_sound (R.covers s.reckoning) (R.meaning s.reckoning) (R.lawful s.reckoning) };
 
     fn ask(&mut self, sheet: &Sheet<'_>, valuation: &mut [i64], working: &mut [Mark]) -> Answer {
-        if !room::is_enough(sheet, valuation, working) {
+        if !has_room(sheet, valuation, working) {
             return Answer::Unsure;
         }
         let cells = sheet.cells().len();
-        valuation[..cells].fill(0);
+        clear(valuation, cells);
         let (marks, stack) = working.split_at_mut(cells);
         self.start(sheet.cells(), marks);
         self.settle(sheet, marks, stack)

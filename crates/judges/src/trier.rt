@@ -7,10 +7,9 @@ ghost use Rattle.judges.specs.Tries.{trier};
 ghost use Rattle.judges.specs.Trying.{Settles, trier_settles, trier_sound};
 
 use super::ranges::{are_few, set_ranges};
-use super::room;
 use super::tries::{find, start};
 use reckoning::mark::Mark;
-use sheets::judge::{Answer, Judge};
+use sheets::judge::{Answer, Judge, has_room};
 use sheets::sheet::Sheet;
 
 // It proposes the first valuation that falsifies a sheet, the lowest cell slowest, and passes a sheet if there is none. Of more than 65,536 it makes none, and is unsure.
@@ -43,7 +42,7 @@ impl Judge for Trier {
     ghost sound = { λ _. trier_sound };
 
     fn ask(&mut self, sheet: &Sheet<'_>, valuation: &mut [i64], working: &mut [Mark]) -> Answer {
-        if !room::is_enough(sheet, valuation, working) {
+        if !has_room(sheet, valuation, working) {
             return Answer::Unsure;
         }
         settle(sheet, &mut valuation[..sheet.cells().len()], working)
