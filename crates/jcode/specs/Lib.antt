@@ -11,4 +11,5 @@ pub mod Lines
 pub mod Units
 pub mod Language
 pub mod Spelling
+pub mod Outgrown
 pub mod Notation
