@@ -9,13 +9,13 @@ use Rattle.jcode.specs.declared.statement.Statement.TheVariants as stands
 use Rattle.jcode.specs.declared.variable.Domain.TheVariants as domain
 use Rattle.jcode.specs.declared.variable.Variable.{Variable}
 use Rattle.jcode.specs.Bytes.{separator, slice}
-use Rattle.jcode.specs.ReadTerms.{UnitRow}
 use Rattle.jcode.specs.Spelling.{Spells, Within, limits}
 use Rattle.jcode.specs.Pieces.{Answer, got, refused}
 use Rattle.jcode.specs.ReadUnits.{Located, Tables, tables, read_unit, outline, answered, left_by}
 use Rattle.jcode.specs.Outgrown.{IsOutgrown}
 use Rattle.jcode.specs.Units.{JUnit, declared_in, retold, unit_in}
 use Rattle.jcode.specs.Notation.{sizes_of, unit_told, IsUnit, TellsUnit, AcceptsExactly}
+use Rattle.jcode.specs.Rows.{UnitRow}
 use Rattle.jcode.proofs.Outcomes.{got_what}
 use Rattle.jcode.proofs.Names.{length_map}
 use Rattle.jcode.proofs.Agreement.{Finds, found, short}

@@ -16,12 +16,12 @@ use Rattle.jcode.specs.Bytes.{slice}
 use Rattle.jcode.specs.Language.{Language, ◌⊙◌, Many, Just, Gap, MayGap, Spelt}
 use Rattle.jcode.specs.Spelling.{Sizes, Variable as Mentioned, Leader, Bracketed, Listing, Term, Lead, Declares, Declarations, Heading, Says, scope_with}
 use Rattle.jcode.specs.Pieces.{Answer, got, refused, Reader, refuse, and_then, ◌▷◌, ◌◁◌, ◌⊗◌, white, read_gap, read_end, read_may_gap}
-use Rattle.jcode.specs.Scopes.{Scope}
+use Rattle.jcode.specs.Scopes.{Scope, listing}
 use Rattle.jcode.specs.Tables.{full_by}
-use Rattle.jcode.specs.ReadTerms.{UnitRow, read_row, operands_after, read_open, read_begin, read_close, read_lead, read_operands, read_term}
-use Rattle.jcode.specs.ReadStatements.{read_target, read_listing, listing, read_text_end, read_label_end, read_gap_label, by_verb}
-use Rattle.jcode.specs.ReadUnits.{goes_on, opens_declaration, read_entry, read_declarations, by_found, read_sentence, rows_all, read_finish, read_statements, Tables, read_heading, read_body, read_rest, located, read_unit}
-use Rattle.jcode.specs.Sentences.{Sentence, Hang, Break, Require, Proclaim, New, Assign, Split, When, Join, rows_of, verb_word, verbs, verb_of}
+use Rattle.jcode.specs.ReadTerms.{read_row, read_open, read_begin, read_close, read_lead, read_operands, read_term}
+use Rattle.jcode.specs.ReadStatements.{read_target, read_listing, read_text_end, read_label_end, read_gap_label, by_verb}
+use Rattle.jcode.specs.ReadUnits.{goes_on, opens_declaration, read_entry, read_declarations, by_found, read_sentence, read_finish, read_statements, Tables, read_heading, read_body, read_rest, located, read_unit}
+use Rattle.jcode.specs.Sentences.{Sentence, Hang, Break, Require, Proclaim, New, Assign, Split, When, Join, rows_of, verb_word, verbs, verb_of, rows_all}
 use Rattle.jcode.specs.Units.{Declared, declared_in, retold}
 use Rattle.jcode.proofs.Outcomes.{refused_got, then_got}
 use Rattle.jcode.proofs.Places.{joins, spelt_as, spelt_none}
@@ -38,6 +38,7 @@ use Rattle.jcode.proofs.Lists.{listing_agrees, Target, target_agrees}
 use Rattle.jcode.proofs.Fairness.{Fair, got_fair, then_fair, missing, limit, mark_fair, white_fair, lead_fair, inside_fair, close_fair, listing_fair, target_fair, text_end_fair, label_end_fair, gap_label_fair, branch_fair, word_fair, name_fair, finish_fair, declaration_fair, heading_fair}
 use Rattle.jcode.specs.Outgrown.{Front, OperandsPartway, Partway, Interrupted, in_require, in_proclaim, in_new, in_shadow, in_value, in_when, IsOutgrown, by_variables, by_statements, by_rows}
 use Rattle.jcode.specs.Notation.{sizes_of}
+use Rattle.jcode.specs.Rows.{UnitRow, operands_after}
 
 -- a refusal of the tables comes from the first reading or from what follows it
 then_refused : {A B : Type 0} (o : Answer A) (f : A → ℕ → Answer B) {place : ℕ} → and_then o f ≡ refuse Table place → (o ≡ refuse Table place) ⊎ ((a : A) × (j : ℕ) × (o ≡ got a j) × (f a j ≡ refuse Table place))

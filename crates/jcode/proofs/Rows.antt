@@ -22,7 +22,8 @@ use Rattle.jcode.specs.Language.{Language, ◌⊙◌, Just, Gap, IsName, Number,
 use Rattle.jcode.specs.Spelling.{Sizes, Variable, Listed, Mention, Leader}
 use Rattle.jcode.specs.Pieces.{Answer, got, Reader, refuse, and_then, ◌▷◌, ◌giving◌, read_gap, read_name, read_number}
 use Rattle.jcode.specs.Scopes.{Scope}
-use Rattle.jcode.specs.ReadTerms.{UnitRow, operator_head, head_of, known, read_listed, mention, read_defined, by_head_found, read_row}
+use Rattle.jcode.specs.ReadTerms.{operator_head, head_of, known, read_listed, mention, read_defined, by_head_found, read_row}
+use Rattle.jcode.specs.Rows.{UnitRow}
 use Rattle.jcode.proofs.Outcomes.{got_what, got_next, then_got, either_got}
 use Rattle.jcode.proofs.Places.{byte, joins, parts, spelt_as, spelt_none, just_next, length_between}
 use Rattle.jcode.proofs.Agreement.{plain, Stops, Finds, found, Agrees, finds_then, after_agrees, image_agrees, weaken, renamed, nothing_agrees}

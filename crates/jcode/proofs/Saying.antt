@@ -14,12 +14,12 @@ use Rattle.jcode.specs.Language.{Language, ◌⊙◌, Just, Gap, MayGap, End, La
 use Rattle.jcode.specs.Spelling.{Sizes, limits, Term, Says, Statements}
 use Rattle.jcode.specs.Pieces.{Answer, got, refuse, and_then, past_gap, read_end, read_word, read_keyword}
 use Rattle.jcode.specs.Scopes.{Scope}
-use Rattle.jcode.specs.ReadTerms.{UnitRow}
 use Rattle.jcode.specs.Tables.{full_by}
-use Rattle.jcode.specs.Sentences.{Sentence, Hang, Break, Require, Proclaim, New, Assign, Split, When, Branch, Join, rows_of, verb_word, verbs, verb_of}
+use Rattle.jcode.specs.Sentences.{Sentence, Hang, Break, Require, Proclaim, New, Assign, Split, When, Branch, Join, rows_of, verb_word, verbs, verb_of, rows_all}
 use Rattle.jcode.specs.ReadStatements.{by_verb}
-use Rattle.jcode.specs.ReadUnits.{is_word as is_this, goes_on, colon_after, opens_declaration, by_found, read_sentence, rows_all, read_finish, read_statements}
+use Rattle.jcode.specs.ReadUnits.{is_word as is_this, goes_on, colon_after, opens_declaration, by_found, read_sentence, read_finish, read_statements}
 use Rattle.jcode.specs.Units.{retold}
+use Rattle.jcode.specs.Rows.{UnitRow}
 use Rattle.jcode.proofs.Outcomes.{refused_got, got_what, got_next, then_got, then_step}
 use Rattle.jcode.proofs.Places.{byte, joins, parts, spelt_as}
 use Rattle.jcode.proofs.Agreement.{Production, mark, Stops, Finds, Agrees, surely, after_agrees, renamed}

@@ -11,7 +11,8 @@ use Rattle.jcode.specs.Language.{Language, ◌⊙◌, Just, Gap, MayGap, Spelt}
 use Rattle.jcode.specs.Spelling.{Sizes, Leader, Close, Lead, Operands, Term}
 use Rattle.jcode.specs.Pieces.{Answer, got, refused, Reader, refuse, and_then, ◌▷◌, read_mark, read_may_gap}
 use Rattle.jcode.specs.Scopes.{Scope}
-use Rattle.jcode.specs.ReadTerms.{UnitRow, read_row, operands_after, read_open, read_begin, read_close, read_lead, read_operands, read_term}
+use Rattle.jcode.specs.ReadTerms.{read_row, read_open, read_begin, read_close, read_lead, read_operands, read_term}
+use Rattle.jcode.specs.Rows.{UnitRow, operands_after}
 use Rattle.jcode.proofs.Outcomes.{refused_got, got_what, got_next, then_got, then_step, unless_got}
 use Rattle.jcode.proofs.Grouping.{regroup, ungroup, under}
 use Rattle.jcode.proofs.Places.{byte, length_between, parts, spelt_none}

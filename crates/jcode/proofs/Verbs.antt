@@ -10,11 +10,11 @@ use Rattle.jcode.specs.Bytes.{separator, digit, slice}
 use Rattle.jcode.specs.Language.{◌⊙◌, Gap, MayGap, End, Label, Text, Spelt}
 use Rattle.jcode.specs.Spelling.{Sizes, Listing}
 use Rattle.jcode.specs.Pieces.{◌◁◌, read_label, read_end}
-use Rattle.jcode.specs.Scopes.{Scope}
-use Rattle.jcode.specs.ReadTerms.{UnitRow}
+use Rattle.jcode.specs.Scopes.{Scope, listing}
 use Rattle.jcode.specs.Sentences.{Sentence, Hang, Break, Require, Proclaim, New, Assign, Split, When, Branch, Join, rows_of}
-use Rattle.jcode.specs.ReadStatements.{read_text_end, read_label_end, read_gap_label, listing, by_verb}
+use Rattle.jcode.specs.ReadStatements.{read_text_end, read_label_end, read_gap_label, by_verb}
 use Rattle.jcode.specs.Units.{retold}
+use Rattle.jcode.specs.Rows.{UnitRow}
 use Rattle.jcode.proofs.Places.{byte, parts, spelt_as}
 use Rattle.jcode.proofs.Agreement.{Production, plain, mark, ahead, behind, both, image, Stops, Agrees, after_agrees, before_agrees, pair_agrees, image_agrees}
 use Rattle.jcode.proofs.Marks.{gap_agrees, may_gap_agrees, end_agrees}

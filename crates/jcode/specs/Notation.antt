@@ -6,9 +6,10 @@ use Rattle.jcode.specs.declared.refusal.Refusal.TheVariants.{Table}
 use Rattle.jcode.specs.Bytes.{separator, passes}
 use Rattle.jcode.specs.Language.{Spelt}
 use Rattle.jcode.specs.Spelling.{Spells, Sizes, Within, limits}
-use Rattle.jcode.specs.ReadUnits.{rows_all, Tables, tables}
+use Rattle.jcode.specs.ReadUnits.{Tables, tables}
 use Rattle.jcode.specs.Outgrown.{IsOutgrown}
 use Rattle.jcode.specs.Units.{JUnit, unit_of}
+use Rattle.jcode.specs.Sentences.{rows_all}
 
 abbrev pub sizes_of : Tables → Sizes
 sizes_of t = record { variables = length t.variables; statements = length t.statements; rows = length t.rows }

@@ -2,12 +2,10 @@
 use Rattle.std.specs.Prelude.{◌≡◌, ℕ, zero, suc, ◌+◌, ◌<◌, ◌≤◌, Bool, true, false, ◌⊎◌, List, [], length, codes}
 use Rattle.jcode.specs.Language.{Language, ◌⊙◌, Many, Just, Gap, MayGap, Spelt}
 use Rattle.jcode.specs.Spelling.{Sizes, Variable, Leader, Lead, Term, Expression, Bracketed, Listing, Says, Declarations, scope_with, Heading}
-use Rattle.jcode.specs.Scopes.{Scope}
-use Rattle.jcode.specs.ReadTerms.{UnitRow, operands_after}
-use Rattle.jcode.specs.ReadStatements.{listing}
-use Rattle.jcode.specs.ReadUnits.{rows_all}
-use Rattle.jcode.specs.Sentences.{Sentence}
+use Rattle.jcode.specs.Scopes.{Scope, listing}
+use Rattle.jcode.specs.Sentences.{Sentence, rows_all}
 use Rattle.jcode.specs.Units.{Declared}
+use Rattle.jcode.specs.Rows.{UnitRow, operands_after}
 
 -- operands up to the place where a term is due, with so many rows before it
 abbrev pub OperandsPartway : (List UnitRow → Language) → (ℕ → Language) → ℕ → Bool → ℕ → Language
