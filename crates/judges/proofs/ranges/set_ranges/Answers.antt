@@ -1,7 +1,7 @@
 use Rattle.std.proofs.Common.{◌≡◌, ◌+◌, ◌≤◌, length, get_or, take, pos, sym, subst, rules}
 use Rattle.std.proofs.lemmas.List.{take_all}
 use Rattle.sheets.specs.Places.{cells_in, rows_in, parts_in, says}
-use Rattle.sheets.proofs.Keeping.{filled}
+use Rattle.sheets.proofs.Ruling.{filled}
 use Rattle.terms.specs.declared.row.Row.TheVariants.{Constant}
 use Rattle.judges.specs.Ranging.{opened}
 use Rattle.judges.proofs.Opening.{Ranged, ranged_more, ranged_all, occurs_rows}

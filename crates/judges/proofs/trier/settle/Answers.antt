@@ -2,7 +2,7 @@ use Rattle.std.proofs.Common.{◌≡◌, true, sym, ap, ◌∙◌, subst, rules}
 use Rattle.std.specs.Prelude.{nat_le}
 use Rattle.sheets.specs.Places.{says}
 use Rattle.sheets.specs.Valuations.{Within}
-use Rattle.sheets.proofs.Keeping.{keeps_from}
+use Rattle.sheets.proofs.Ruling.{keeps_from}
 use Rattle.judges.specs.Tries.{ranges, ways}
 use Rattle.judges.proofs.Telling.{within_lows, told_found, told_none}
 use Rattle.judges.proofs.trier.settle.Goals as goal

@@ -3,7 +3,7 @@ use Rattle.reckoning.specs.Exactness.{Spans}
 use Rattle.sheets.specs.Sheets.{part, setting_term}
 use Rattle.sheets.specs.Places.{cells_in, rows_in, parts_in, says}
 use Rattle.sheets.specs.Valuations.{cell_in}
-use Rattle.sheets.proofs.Keeping.{keeps_from}
+use Rattle.sheets.proofs.Ruling.{keeps_from}
 use Rattle.judges.specs.Passing.{set_by_at}
 use Rattle.judges.specs.Ranging.{no_cell}
 use Rattle.judges.proofs.Spanning.{setting_spans, setting_room}

@@ -1,7 +1,7 @@
 use Rattle.std.proofs.Common.{◌≡◌, ◌<◌, ◌≤◌, false, length, sym, ap, ◌∙◌, subst, arith, rules}
 use Rattle.sheets.specs.Places.{cells_in, says}
 use Rattle.sheets.specs.Valuations.{Within}
-use Rattle.sheets.proofs.Keeping.{keeps_from}
+use Rattle.sheets.proofs.Ruling.{keeps_from}
 use Rattle.judges.specs.Keeping.{within_length}
 use Rattle.judges.specs.Tries.{ranges, is_refuted}
 use Rattle.judges.specs.Walks.{turning, Turned}

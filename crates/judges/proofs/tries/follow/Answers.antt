@@ -3,7 +3,7 @@ use Rattle.std.proofs.lemmas.Int.{to_z-of_z}
 use Rattle.sheets.specs.Sheets.{set_by}
 use Rattle.sheets.specs.Places.{says}
 use Rattle.sheets.specs.Valuations.{Within}
-use Rattle.sheets.proofs.Keeping.{keeps_from}
+use Rattle.sheets.proofs.Ruling.{keeps_from}
 use Rattle.judges.specs.Tries.{ranges}
 use Rattle.judges.specs.Walks.{left, begun}
 use Rattle.judges.specs.Ranging.{no_cell}

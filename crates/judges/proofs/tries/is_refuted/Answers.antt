@@ -4,7 +4,7 @@ use Rattle.reckoning.specs.Exactness.{Spans}
 use Rattle.sheets.specs.Sheets.{part, part_in}
 use Rattle.sheets.specs.Places.{rows_in, parts_in, says}
 use Rattle.sheets.specs.Valuations.{cell_in}
-use Rattle.sheets.proofs.Keeping.{keeps_from}
+use Rattle.sheets.proofs.Ruling.{keeps_from}
 use Rattle.judges.proofs.Spanning.{part_spans}
 use Rattle.judges.proofs.Refuting.{goes_on, fails}
 use Rattle.judges.proofs.tries.is_refuted.Goals as goal
