@@ -82,12 +82,12 @@ module _ (tables : Sizes) (bytes : List ℕ) where
   after_gap r f {i = i} l e =
       let o = first_of ((read_gap ▷ r) bytes i) (λ a j. got (f a) j) (λ a. got_fair (f a)) e in
       let t = past (λ _ j. r bytes j) (white_fair bytes i (white 32 bytes i)) o in
-      (t.1, ((gap_agrees tables bytes).sound i t.0 t.1 l t.2).spelt, t.3)
+      (t.1, ((gap_agrees {tables = tables}).sound i t.0 t.1 l t.2).spelt, t.3)
 
   after_may_gap : {A : Type 0} (r : Reader A) {i place : ℕ} → i ≤ length bytes → (read_may_gap ▷ r) bytes i ≡ refuse Table place → (j : ℕ) × Spelt MayGap bytes i j × (r bytes j ≡ refuse Table place)
   after_may_gap r {i = i} l e =
       let t = past (λ _ j. r bytes j) (got_fair tt _) e in
-      (t.1, ((may_gap_agrees tables bytes).sound i t.0 t.1 l t.2).spelt, t.3)
+      (t.1, ((may_gap_agrees {tables = tables}).sound i t.0 t.1 l t.2).spelt, t.3)
 
   paired : {A B : Type 0} (r : Reader A) (q : A → Reader B) {i place : ℕ} → ((a : A) (j : ℕ) → Fair (q a bytes j)) → (r ⊗ q) bytes i ≡ refuse Table place → r bytes i ≡ refuse Table place
   paired r q {i = i} h e = first_of (r bytes i) (λ a j. and_then (q a bytes j) (λ b k. got (a, b) k)) (λ a j. then_fair (q a bytes j) (λ b k. got (a, b) k) (h a j) (λ b. got_fair (a, b))) e
@@ -120,11 +120,11 @@ module _ (tables : Sizes) (bytes : List ℕ) where
         ⊎_elim
         (λ t.
         let a = past (λ _ j. term k used bytes j) (lead_fair bytes first i) t in
-        let s = ((lead_agrees tables bytes first).sound i a.0 a.1 l a.2).spelt in
+        let s = ((lead_agrees {tables = tables} first).sound i a.0 a.1 l a.2).spelt in
         filled_as s (rec used a.1 place s.within a.3) (λ w h. inl h))
         (λ t.
         let a = then_got (read_lead first bytes i) (λ _ j. term k used bytes j) t.2 in
-        let s = ((lead_agrees tables bytes first).sound i a.0 a.1 l a.2).spelt in
+        let s = ((lead_agrees {tables = tables} first).sound i a.0 a.1 l a.2).spelt in
         let r = ((term_agrees tables bytes sc once k used).sound a.1 t.0 t.1 s.within a.3).spelt in
         let more = first_of (read_operands (term k) m false (used + length t.0) bytes t.1) (λ rest j. got (t.0 ++ rest) j) (λ rest. got_fair (t.0 ++ rest)) t.3 in
         operand_first k m first used t.0 s r (operands_fill k rec m false (used + length t.0) t.1 place r.within more))
@@ -271,7 +271,7 @@ module _ (tables : Sizes) (bytes : List ℕ) where
   unfolding read_sentence
   sentence_fills sc once r used i place l e =
       let t = past (λ s j. by_found sc tables.rows used r false i (verb_of (slice bytes s)) bytes j) (word_fair bytes i) e in
-      let p = ((word_agrees tables bytes).sound i t.0 t.1 l t.2).spelt in
+      let p = ((word_agrees {tables = tables}).sound i t.0 t.1 l t.2).spelt in
       by_found_fills sc once r used i t.1 place (slice bytes t.0) (verb_of (slice bytes t.0)) refl (spelt_as (λ w h. h.1) p) t.3
 
   -- a full table is blamed at the place of what it has no room for
