@@ -298,7 +298,7 @@ module _ (tables : Sizes) (bytes : List ℕ) where
       renamed declarations (λ ds w h. h) (λ ds w h. h)
       (λ t ds n. let r = fresh_there same_word same_word_laws (λ d. d.name) t.variables 0 [] ds tt n in let l = r.0 in (omega arith, r.1))
       (λ t ds n. let l = n.0 in fresh_back same_word same_word_laws (λ d. d.name) t.variables 0 [] ds (omega arith) n.1)
-      (many_agrees tables bytes opens_declaration (read_entry (full_by tables.variables 32)) (λ seen bytes at. got seen at) told Declares (Just []) (λ t n. n < t.variables) NeedsNew Sep Over most repeats)
+      (many_agrees repeats)
 
   pub declarations_begin : (ds : List Declared) {i j : ℕ} → Spelt (Declarations ds) bytes i j → Over j → Sep i
-  declarations_begin ds s stop = many_stops tables bytes opens_declaration (read_entry (full_by tables.variables 32)) (λ seen bytes at. got seen at) told Declares (Just []) (λ t n. n < t.variables) NeedsNew Sep Over most repeats ds _ _ s stop
+  declarations_begin ds s stop = many_stops repeats ds _ _ s stop

@@ -106,7 +106,7 @@ module _ (tables : Sizes) (bytes : List ℕ) (sc : Scope) (once : IsDistinct sam
         (λ t.
         let u = then_got (read_variable sc bytes i) (λ v j. read_more sc 7 (v ∷ []) bytes j) t.1 in
         let s = ((variable_agrees tables bytes sc once).sound i u.0 u.1 l u.2).spelt in
-        let m = many_sound tables bytes goes_on (λ full seen. read_gap ▷ read_unseen sc full seen) (λ seen. read_close giving (λ _. seen)) (λ v. v) (λ v. Gap ⊙ Variable sc v) Close (λ t n. n < 8) NeedsFresh (Stops name_byte bytes) Anywhere 8 repeats 7 1 (u.0 ∷ []) u.1 vs j (omega arith) s.within u.3 in
+        let m = many_sound repeats 7 1 (u.0 ∷ []) u.1 vs j (omega arith) s.within u.3 in
         let is : vs ≡ u.0 ∷ m.rest = sym (map-id vs) ∙ m.is in
         let n = twice_there u.0 m.rest m.keeps in
         subst (λ vs. Stands tables bytes (kept NoneTwice (plain (Names sc))) i vs j) (sym is) (record { spelt = joins s m.spelt; keeps = (n, tt); fits = (n, tt) }))
@@ -126,7 +126,7 @@ module _ (tables : Sizes) (bytes : List ℕ) (sc : Scope) (once : IsDistinct sam
           (finds_then (λ vs. vs) (NoneTwice (v ∷ vs) × Unit {0}) (v ∷ vs) j (λ v j. read_more sc 7 (v ∷ []) bytes j)
           ((variable_agrees tables bytes sc once).complete i v c.0 c.1 tt more) (λ m. tt)
           (λ a _ is.
-          listed a v vs is (many_complete tables bytes goes_on (λ full seen. read_gap ▷ read_unseen sc full seen) (λ seen. read_close giving (λ _. seen)) (λ v. v) (λ v. Gap ⊙ Variable sc v) Close (λ t n. n < 8) NeedsFresh (Stops name_byte bytes) Anywhere 8 repeats 7 1 (a ∷ []) c.0 vs j (omega arith) c.2 (subst (λ a. SomeFresh a vs) (sym is) fresh) tt)))
+          listed a v vs is (many_complete repeats 7 1 (a ∷ []) c.0 vs j (omega arith) c.2 (subst (λ a. SomeFresh a vs) (sym is) fresh) tt)))
         where
           after_first : (vs : List ℕ) {i j : ℕ} → Spelt (MoreNames sc vs) bytes i j → Stops name_byte bytes i
           after_first [] s = close_stops bytes name_byte separator_no_name refl s

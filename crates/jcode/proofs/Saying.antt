@@ -325,7 +325,7 @@ module _ (tables : Sizes) (bytes : List ℕ) (sc : Scope) where
       renamed (statements sc) (λ ss w h. h) (λ ss w h. h)
       (λ t ss n. let c = counted_there t 0 [] ss n in let a = c.0 in let b = c.1 in (omega arith, omega arith))
       (λ t ss n. let a = n.0 in let b = n.1 in counted_back t 0 [] ss (omega arith) (omega arith))
-      (many_agrees tables bytes goes_on (λ full seen. read_sentence sc tables.rows (full_by tables.statements 200) full (length (rows_all seen))) (λ seen bytes at. and_then (read_finish bytes at) (λ _ i. got seen i)) told (Says sc) (Just (codes "END") ⊙ End) (λ t n. n < t.statements) NeedsRows Sep Sep most (repeats once))
+      (many_agrees (repeats once))
 
   -- where statements begin no declaration stands
   pub statements_begin : (ss : List (Sentence (List ℕ))) {i j : ℕ} → Spelt (Statements sc ss) bytes i j → Sep j → Sep i × (opens_declaration bytes i ≡ false)
