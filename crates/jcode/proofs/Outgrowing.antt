@@ -297,7 +297,7 @@ module _ (tables : Sizes) (bytes : List ℕ) where
     pub said : List (Sentence (List ℕ))
     pub next : ℕ
     pub spelt : Spelt (Many (Says sc) (Just []) said) bytes i next
-    pub cause : ((next ≡ place) × (tables.statements ≤ n + length said) × (n + length said < 200)) ⊎ Fills (Interrupted sc) (used + length (rows_all said)) next place
+    pub cause : ((next ≡ place) × (n + length said ≡ tables.statements) × (n + length said < 200)) ⊎ Fills (Interrupted sc) (used + length (rows_all said)) next place
 
   module _ (sc : Scope) (once : IsDistinct same_word sc.names) where
     cut_more : (n used : ℕ) (s : Sentence (List ℕ)) {i j place : ℕ} → Spelt (Says sc s) bytes i j → Cut sc (n + 1) (used + length (rows_of s)) j place → Cut sc n used i place
@@ -350,7 +350,7 @@ module _ (tables : Sizes) (bytes : List ℕ) where
   pub record Undeclared (n i place : ℕ) : Type 0 where
     pub made : List Declared
     pub spelt : Spelt (Declarations made) bytes i place
-    pub full : tables.variables ≤ n + length made
+    pub full : n + length made ≡ tables.variables
     pub few : n + length made < 32
 
   declared_more : (n : ℕ) (d : Declared) {i j place : ℕ} → Spelt (Declares d) bytes i j → Undeclared (n + 1) j place → Undeclared n i place

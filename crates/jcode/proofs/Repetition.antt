@@ -112,13 +112,13 @@ module _ {tables : Sizes} {bytes : List ℕ} {A B : Type 0} {more : List ℕ →
       short f.0 (cond-true _ _ _ (r.goes_on b i c.0 c.1) ∙ ap (λ o. and_then o (λ _ j. got seen j)) f.1) (λ m. f.2 (subst (room tables) e m.0))
   many_complete (suc left) n seen i (b ∷ bs) j count s need stop =
       let c = parts s in
-      let V = map view seen in
-      let after_one = finds_then (map view) (All tables n V (b ∷ bs)) (V ++ b ∷ bs) j (λ a j. repeated more step done left (seen ++ a ∷ []) bytes j)
+      let told = map view seen in
+      let after_one = finds_then (map view) (All tables n told (b ∷ bs)) (told ++ b ∷ bs) j (λ a j. repeated more step done left (seen ++ a ∷ []) bytes j)
       ((r.items seen).complete i b c.0 c.1 need.1 (many_stops bs c.0 j c.2 stop)) (λ m. m.1)
       (λ a _ is.
-      let e : map view (seen ++ a ∷ []) ≡ V ++ b ∷ [] = map_push view seen a ∙ ap (λ x. V ++ x ∷ []) is in
+      let e : map view (seen ++ a ∷ []) ≡ told ++ b ∷ [] = map_push view seen a ∙ ap (λ x. told ++ x ∷ []) is in
       let h = many_complete left (n + 1) (seen ++ a ∷ []) c.0 bs j (omega arith) c.2 (subst (λ s. All limits (n + 1) s bs) (sym e) need.2) stop in
-      finds_as (All tables n V (b ∷ bs)) h (λ m. subst (λ s. All tables (n + 1) s bs) (sym e) m.2) (ap (λ s. s ++ bs) e ∙ append_assoc V (b ∷ []) bs)) in
+      finds_as (All tables n told (b ∷ bs)) h (λ m. subst (λ s. All tables (n + 1) s bs) (sym e) m.2) (ap (λ s. s ++ bs) e ∙ append_assoc told (b ∷ []) bs)) in
       subst (λ o. FindsMany n seen o (b ∷ bs) j) (sym (cond-true _ _ _ (r.goes_on b i c.0 c.1))) after_one
 
   pub many_agrees : Agrees tables bytes (repeated more step done most []) (map view) (record { spells = Many item end; needs = λ t. All t 0 [] }) q

@@ -36,6 +36,6 @@ Front name ds ss = Heading name ⊙ Declarations ds ⊙ Many (Says (scope_with d
 
 -- what stands before a place fills a table, and is no more than the notation allows
 pub data IsOutgrown (most : Sizes) (bytes : List ℕ) (start place : ℕ) : Type 0 where
-  by_variables : (name : List ℕ) (ds : List Declared) → Spelt (Front name ds []) bytes start place → most.variables ≤ length ds → length ds < 32 → IsOutgrown most bytes start place
-  by_statements : (name : List ℕ) (ds : List Declared) (ss : List (Sentence (List ℕ))) → Spelt (Front name ds ss) bytes start place → most.statements ≤ length ss → length ss < 200 → IsOutgrown most bytes start place
+  by_variables : (name : List ℕ) (ds : List Declared) → Spelt (Front name ds []) bytes start place → length ds ≡ most.variables → length ds < 32 → IsOutgrown most bytes start place
+  by_statements : (name : List ℕ) (ds : List Declared) (ss : List (Sentence (List ℕ))) → Spelt (Front name ds ss) bytes start place → length ss ≡ most.statements → length ss < 200 → IsOutgrown most bytes start place
   by_rows : (name : List ℕ) (ds : List Declared) (ss : List (Sentence (List ℕ))) (next n : ℕ) → Spelt (Front name ds ss) bytes start next → Spelt (Interrupted (scope_with ds) n) bytes next place → most.rows ≤ length (rows_all ss) + n → length (rows_all ss) + n < 2000 → IsOutgrown most bytes start place
