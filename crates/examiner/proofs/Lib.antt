@@ -1,0 +1,4 @@
+pub mod Going
+pub mod Counting
+pub mod Judging
+pub mod Keeping
