@@ -1,3 +1,4 @@
 pub mod Histories
 pub mod Steps
 pub mod Promises
+pub mod Reports
