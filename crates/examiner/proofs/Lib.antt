@@ -2,3 +2,4 @@ pub mod Going
 pub mod Counting
 pub mod Judging
 pub mod Keeping
+pub mod Stepping

@@ -1,4 +1,6 @@
 pub mod Histories
 pub mod Steps
 pub mod Promises
+pub mod Tallies
+pub mod Lives
 pub mod Reports

@@ -1,5 +1,5 @@
 -- What may come next in an examination of a unit with a tag, by what came before.
-use Rattle.std.specs.Prelude.{◌≡◌, ◌≢◌, ◌⊎◌, ℕ, Bool, true, false, List, [], ◌∷◌, length, Some, None, Ok, Err, Option, Result, nat_le, nat_lt, is_some}
+use Rattle.std.specs.Prelude.{◌≡◌, ◌≢◌, ◌⊎◌, ℕ, Bool, true, false, List, [], ◌∷◌, length, Some, None, Ok, Err, Option, Result, nat_le, nat_lt}
 use Rattle.flow.specs.Numbers.{paths}
 use Rattle.jcode.specs.declared.refusal.Refusal.TheVariants as refusal
 use Rattle.jcode.specs.Units.{JUnit}
@@ -9,7 +9,6 @@ use Rattle.sheets.specs.declared.outcome.Outcome.TheVariants.{Passed, Failed, Op
 use Rattle.sheets.specs.Faults.{refused}
 use Rattle.sheets.specs.Settling.{Held, Room, Settled, condition}
 use Rattle.examiner.specs.declared.slip.Slip.{Slip}
-use Rattle.examiner.specs.declared.tally.Tally.{Tally}
 use Rattle.examiner.specs.declared.verdict.Judgement.{Judgement}
 use Rattle.examiner.specs.declared.verdict.Judgement.TheVariants as judgement
 use Rattle.examiner.specs.declared.verdict.Verdict.{Verdict}
@@ -55,17 +54,3 @@ Step u tag h (told v) = v ≡ verdict_on u (accepted h)
 abbrev pub Happened : JUnit → ℕ → History → Type 0
 Happened u tag [] = Unit {0}
 Happened u tag (e ∷ h) = Step u tag h e × Happened u tag h
-
--- what an examination remembers of a history
-abbrev pub summed : History → Tally
-summed h = record {
-  passed = how_many Passed (accepted h);
-  failed = how_many Failed (accepted h);
-  «open» = how_many Open (accepted h);
-  lowest = first_failed (accepted h);
-  out = is_some (out h);
-}
-
--- some history leads to a tally
-abbrev pub Reached : JUnit → ℕ → Tally → Type 0
-Reached u tag t = ∥ ((h : History) × Happened u tag h × (t ≡ summed h)) ∥₁

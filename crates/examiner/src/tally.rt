@@ -10,3 +10,14 @@ pub(super) struct Tally {
     // A slip is out.
     pub(super) out: bool,
 }
+
+impl Tally {
+    // Of an examination in which nothing happened.
+    pub(super) const EMPTY: Tally = Tally {
+        passed: 0,
+        failed: 0,
+        open: 0,
+        lowest: None,
+        out: false,
+    };
+}

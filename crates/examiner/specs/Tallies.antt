@@ -1,0 +1,36 @@
+-- Tallies: what an examination remembers of its history.
+use Rattle.std.specs.Prelude.{◌≡◌, ℕ, ◌+◌, true, is_some}
+use Rattle.jcode.specs.Units.{JUnit}
+use Rattle.sheets.specs.declared.outcome.Outcome.TheVariants.{Passed, Failed, Open}
+use Rattle.examiner.specs.declared.slip.Slip.{Slip}
+use Rattle.examiner.specs.declared.tally.Tally.{Tally}
+use Rattle.examiner.specs.Histories.{History, accepted, out, how_many, first_failed}
+use Rattle.examiner.specs.Steps.{Happened}
+
+-- how many conditions are settled
+abbrev pub total : Tally → ℕ
+total t = t.passed + t.failed + t.open
+
+-- the slip is the one that is out
+pub record IsDue (tag : ℕ) (t : Tally) (l : Slip) : Type 0 where
+  pub is_out : t.out ≡ true
+  pub tagged : l.tag ≡ tag
+  pub next : l.number ≡ total t
+
+abbrev pub summed : History → Tally
+summed h = record {
+  passed = how_many Passed (accepted h);
+  failed = how_many Failed (accepted h);
+  «open» = how_many Open (accepted h);
+  lowest = first_failed (accepted h);
+  out = is_some (out h);
+}
+
+-- this history of an examination of the unit with the tag comes to this
+pub record Comes (u : JUnit) (tag : ℕ) (h : History) (t : Tally) : Type 0 where
+  pub happened : Happened u tag h
+  pub remembered : t ≡ summed h
+
+-- and so does some history
+abbrev pub Reached : JUnit → ℕ → Tally → Type 0
+Reached u tag t = ∥ ((h : History) × Comes u tag h t) ∥₁

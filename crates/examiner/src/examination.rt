@@ -1,0 +1,105 @@
+// Examinations: the conditions of a checked unit are settled one after another, each by a judge of the caller's choice.
+
+ghost use Rattle.std.specs.Prelude.{◌≡◌, ◌<◌, ◌≤◌, true};
+ghost use Rattle.checking.specs.CheckedUnits.{said};
+ghost use Rattle.examiner.specs.Steps.{path_count};
+ghost use Rattle.examiner.specs.Tallies.{total, Reached};
+
+use super::slip::{Returned, Slip};
+use super::tally::Tally;
+use super::verdict::{Judgement, Verdict};
+use checking::unit::CheckedUnit;
+use jcode::refusal::Refusal;
+use sheets::fault::SheetFault;
+
+// It remembers no more than its tally, and yet some history of calls led to it.
+#[derive(Drop)]
+pub struct Examination<'a> {
+    unit: CheckedUnit<'a>,
+    tag: u64,
+    tally: Tally,
+    ghost few: { total tally ≤ path_count (said unit) },
+    ghost left: { (tally.out ≡ true → total tally < path_count (said unit)) },
+    ghost reached: { Reached (said unit) tag tally },
+}
+
+impl<'a> Examination<'a> {
+    ghost use Rattle.std.specs.Prelude.{◌↔◌, [], Some, IsTrue, nat_lt};
+    ghost use Rattle.examiner.specs.Histories.{took, handed_back, told, out};
+    ghost use Rattle.examiner.specs.Lives.{Leads, Goes, Promised};
+    ghost use Rattle.examiner.specs.Steps.{judged};
+    ghost use Rattle.examiner.specs.Tallies.{IsDue};
+
+    pub fn new(unit: CheckedUnit<'a>, tag: u64) -> Examination<'a>
+        ensures { Leads (said unit.entry) tag [] result }
+    {
+        Examination {
+            unit,
+            tag,
+            tally: Tally::EMPTY,
+        }
+    }
+
+    // How many conditions are settled: the number of the next one.
+    fn settled(&self) -> usize
+        ensures { result ≡ total self.now.tally }
+    {
+        let Tally {
+            passed,
+            failed,
+            open,
+            ..
+        } = self.tally;
+        passed + failed + open
+    }
+
+    // The slip of the next condition.
+    pub fn take(&mut self) -> Result<Slip, SheetFault>
+        ensures { Goes (took result) self.old self.new }
+    {
+        let number = self.settled();
+        if self.unit.paths() <= number {
+            return Err(Refusal::Condition.into());
+        }
+        if self.tally.out {
+            return Err(Refusal::SlipOut.into());
+        }
+        self.tally.out = true;
+        Ok(Slip::new(self.tag, number))
+    }
+
+    fn is_out(&self, slip: &Slip) -> bool
+        ensures { IsTrue result ↔ IsDue self.now.tag self.now.tally slip.now }
+    {
+        self.tally.out && slip.tag() == self.tag && slip.number() == self.settled()
+    }
+
+    // Settles nothing: the condition will be taken again.
+    pub fn hand_back(&mut self, slip: Slip) -> Result<(), Returned>
+        ensures { Goes (handed_back slip result) self.old self.new }
+    {
+        if !self.is_out(&slip) {
+            return Err(Returned {
+                slip,
+                fault: Refusal::Slip.into(),
+            });
+        }
+        slip.spend();
+        self.tally.out = false;
+        Ok(())
+    }
+
+    fn judgement(&self) -> Judgement
+        ensures { result ≡ judged self.now.tally.lowest (nat_lt (total self.now.tally) (path_count (said self.now.unit))) (nat_lt 0 self.now.tally.open) }
+    {
+        if let Some(number) = self.tally.lowest {
+            Judgement::Failed(number)
+        } else if self.settled() < self.unit.paths() {
+            Judgement::Unfinished
+        } else if self.tally.open > 0 {
+            Judgement::Open
+        } else {
+            Judgement::Cleared
+        }
+    }
+}
