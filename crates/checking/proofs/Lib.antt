@@ -5,3 +5,4 @@ pub mod Flowing
 pub mod Ruling
 pub mod Telling
 pub mod Outlining
+pub mod Entries

@@ -40,7 +40,7 @@ least_at : (P Q : ℕ → Type 0) → ((i : ℕ) → P i → Q i) → ((i : ℕ)
 least_at P Q to from None l = λ i q. l i (from i q)
 least_at P Q to from (Some i) l = (to i l.0, λ j lt q. l.1 j lt (from j q))
 
-same_domains : (bytes : List ℕ) (vs : List Variable) → domains_in vs ≡ map (λ (d : Declared). d.domain) (map (declared_in bytes) vs)
+pub same_domains : (bytes : List ℕ) (vs : List Variable) → domains_in vs ≡ map (λ (d : Declared). d.domain) (map (declared_in bytes) vs)
 same_domains bytes [] = refl
 same_domains bytes (v ∷ vs) = ap (λ ds. v.domain ∷ ds) (same_domains bytes vs)
 

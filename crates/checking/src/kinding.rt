@@ -1,10 +1,11 @@
 // Kinding: the kind of a term, from the kinds of what it mentions.
 
 ghost use Rattle.std.specs.Prelude.{◌≡◌, length, if◌then◌else◌, None, nat_le};
+ghost use Rattle.terms.specs.Terms.{entries_for};
 ghost use Rattle.reckoning.specs.Kinds.{asked, is_kind, kind_given, kinds, kind_of};
 
 use terms::fits::Fits;
-use terms::fold::{Interpretation, outcome};
+use terms::fold::{Interpretation, newest};
 use terms::kind::{Kind, Sort};
 use terms::mentions::Mentions;
 use terms::operator::Operator;
@@ -76,13 +77,13 @@ impl<'a, M: Copy, K: Mentions<M, Kind>> Interpretation<M, Option<Kind>> for Kind
     }
 }
 
-// The kind of a term, `None` if an operator stands before operands of other kinds, or if there are fewer lent entries than rows.
+// The kind of a term, `None` if an operator stands before operands of other kinds, or if there are fewer lent entries than reading the rows takes.
 pub fn kind_of<M: Copy, K: Mentions<M, Kind>>(
     mentions: &K,
     rows: &[Row<M>],
     stack: &mut [Option<Kind>],
 ) -> Option<Kind>
-    ensures { result ≡ (if nat_le (length rows.now) (length stack.old) then kind_of (K.found mentions.now) rows.now else None) }
+    ensures { result ≡ (if nat_le (entries_for rows.now) (length stack.old) then kind_of (K.found mentions.now) rows.now else None) }
 {
-    outcome(&Kinding { mentions }, rows, stack)
+    newest(&Kinding { mentions }, rows, stack)
 }

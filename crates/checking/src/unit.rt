@@ -8,15 +8,18 @@ ghost use Rattle.jcode.specs.ReadUnits.{tables as held_in};
 ghost use Rattle.jcode.specs.Units.{unit_of};
 ghost use Rattle.checking.specs.Breaks.{steps_of, path_limit, Unbroken};
 ghost use Rattle.checking.specs.Held.{held};
+ghost use Rattle.checking.specs.Types.{domains};
+ghost use Rattle.std.specs.List.{slice_get};
 
 use super::fault::CheckFault;
 use super::tables::UnitTables;
+use super::types::Types;
 use flow::paths::Paths;
 use flow::turn::Turn;
 use jcode::mention::UnitRow;
 use jcode::span::Span;
 use jcode::statement::{Statement, Term};
-use jcode::variable::Variable;
+use jcode::variable::{Domain, Variable};
 use terms::operator::Operator;
 use terms::row::Row;
 
@@ -125,5 +128,34 @@ impl<'a> CheckedUnit<'a> {
         ensures { result.now ≡ (said self.now).name }
     {
         self.tables.name.of(self.tables.bytes)
+    }
+
+    // Its variables, statements and rows, as they stand in the tables that it was checked from.
+    pub fn variables(&self) -> &'a [Variable]
+        ensures { result.now ≡ self.now.tables.variables.now }
+    {
+        self.tables.variables
+    }
+
+    pub fn statements(&self) -> &'a [Statement]
+        ensures { result.now ≡ self.now.tables.statements.now }
+    {
+        self.tables.statements
+    }
+
+    pub fn rows(&self) -> &'a [UnitRow]
+        ensures { result.now ≡ self.now.tables.rows.now }
+    {
+        self.tables.rows
+    }
+
+    // The type of a variable, `None` for an unknown one.
+    pub fn domain(&self, variable: usize) -> Option<Domain>
+        ensures { result ≡ slice_get (domains (said self.now)) variable }
+    {
+        let types = Types {
+            variables: self.tables.variables,
+        };
+        types.domain(variable)
     }
 }

@@ -1,6 +1,6 @@
 -- The valuations that falsify a path's sheet are its failing runs.
-use Rattle.std.proofs.Common.{◌≡◌, ◌↔◌, ℕ, zero, suc, ◌*◌, ◌<◌, true, List, [], ◌∷◌, ◌++◌, map, length, get_or, drop, ℤ, pos, None, refl, sym, ap, ◌∙◌, subst, arith, length-append}
-use Rattle.std.proofs.lemmas.List.{length-map, drop_at}
+use Rattle.std.proofs.Common.{◌≡◌, ◌↔◌, ℕ, zero, suc, ◌*◌, ◌<◌, ◌≤◌, true, List, [], ◌∷◌, ◌++◌, map, length, get_or, take, drop, ℤ, pos, None, refl, sym, ap, ap₂, ◌∙◌, subst, arith, length-append}
+use Rattle.std.proofs.lemmas.List.{length-map, drop_at, take_at, take-append-drop, length-take-le}
 use Rattle.flow.specs.Steps.{at, is_break, is_require}
 use Rattle.flow.specs.declared.step.Step.TheVariants as step
 use Rattle.flow.specs.Paths.{required, Way, Path}
@@ -13,7 +13,7 @@ use Rattle.sheets.specs.Runs.{sentence, are_of, with_shadows, types_at, Fitting,
 use Rattle.sheets.specs.PathSheets.{Progress, cell_of, cells_from, parts_of, cells_of, onward, parts_along, cells_along, started, sheet_of}
 use Rattle.sheets.specs.Sheets.{CellTerm}
 use Rattle.sheets.specs.Valuations.{cell_in, is_within, GoalAloneFalse, Falsifies}
-use Rattle.sheets.specs.Matches.{Sensible, terms_kept}
+use Rattle.sheets.specs.Matches.{Sensible, terms_kept, start_in, given_in}
 use Rattle.sheets.proofs.Storing.{length-stored, map-stored, length-cells_from, looked, looked_next, left_over}
 use Rattle.sheets.proofs.Typing.{length-within, within_append, within_cut, within_split, within_typed, within_cells_of, length-are_of, length-with_shadows, length-types_at}
 use Rattle.sheets.proofs.Parts.{AllTrue, parts_say, number_over}
@@ -44,7 +44,7 @@ a_part : {T : Type 0} (w : Progress) (st : Sentence T) → is_require (step_of s
 a_part w (Require c t) e = omega arith
 a_part w st e = never e
 
-require_at : (u : JUnit) (i : ℕ) → required (steps_of u) i ≡ true → is_require (step_of (sentence u i)) ≡ true
+pub require_at : (u : JUnit) (i : ℕ) → required (steps_of u) i ≡ true → is_require (step_of (sentence u i)) ≡ true
 require_at u i e = sym (ap is_require (step_here u i)) ∙ e
 
 pub some_part : (u : JUnit) (w : Progress) (i : ℕ) (rest : List ℕ) → Way (required (steps_of u)) (steps_of u) i rest → 0 < length (parts_along u w (i ∷ rest))
@@ -144,7 +144,7 @@ length-domains : (u : JUnit) → length (domains u) ≡ length u.variables
 length-domains u = length-map u.variables (λ d. d.domain)
 
 -- as many start cells as there are numbers in a store
-length-start : (u : JUnit) → length (map (cell_of None) (with_shadows (domains u))) ≡ 2 * length u.variables
+pub length-start : (u : JUnit) → length (map (cell_of None) (with_shadows (domains u))) ≡ 2 * length u.variables
 length-start u = length-map (with_shadows (domains u)) (cell_of None) ∙ length-with_shadows (domains u) ∙ ap (λ n. 2 * n) (length-domains u)
 
 -- a run starts at a BREAK, which any run may come to
@@ -152,10 +152,10 @@ admits_break : {T : Type 0} (st : Sentence T) (s : List ℤ) → step_of st ≡ 
 admits_break (When c l) s e = never (ap is_break e)
 admits_break st s e = tt
 
-pub both_ways : (u : JUnit) → Sensible u → (p : List ℕ) → Path (steps_of u) p → (start given : List ℤ) → length start ≡ 2 * length u.variables
+pub starts_and_gives : (u : JUnit) → Sensible u → (p : List ℕ) → Path (steps_of u) p → (start given : List ℤ) → length start ≡ 2 * length u.variables
     → Falsifies (sheet_of u p) (start ++ given) ↔ (Fitting u start × FailsAlong u p start given)
-both_ways u sensible [] path start given l = absurd path
-both_ways u sensible (i ∷ rest) path start given l =
+starts_and_gives u sensible [] path start given l = absurd path
+starts_and_gives u sensible (i ∷ rest) path start given l =
     let first = map (cell_of None) (with_shadows (domains u)) in
     let more = cells_along u (started u) (i ∷ rest) in
     let held : looked (start ++ given) (pos 0) (cells_from 0 u.variables) ≡ start = looked_next (start ++ given) (pos 0) 0 u.variables start given refl l in
@@ -169,8 +169,29 @@ both_ways u sensible (i ∷ rest) path start given l =
           (within_append first more start given (within_typed (with_shadows (domains u)) start ∙ f.0) a.0, a.1),
     )
 
-pub spelled_out : (u : JUnit) (p : List ℕ) (v : List ℤ) → Falsifies (sheet_of u p) v → (start : List ℤ) × (given : List ℤ) × (v ≡ start ++ given) × (length start ≡ 2 * length u.variables)
+spelled_out : (u : JUnit) (p : List ℕ) (v : List ℤ) → Falsifies (sheet_of u p) v → (start : List ℤ) × (given : List ℤ) × (v ≡ start ++ given) × (length start ≡ 2 * length u.variables)
 spelled_out u p v f =
     let first = map (cell_of None) (with_shadows (domains u)) in
     let c = within_cut first (cells_along u (started u) p) v f.0 in
     (c.0, c.1, c.2, length-within first c.0 c.3 ∙ length-start u)
+
+pub length-fitting : (u : JUnit) (s : List ℤ) → Fitting u s → length s ≡ 2 * length u.variables
+length-fitting u s h = length-are_of (with_shadows (domains u)) s h ∙ length-with_shadows (domains u) ∙ ap (λ n. 2 * n) (length-domains u)
+
+pub both_ways : (u : JUnit) → Sensible u → (p : List ℕ) → Path (steps_of u) p → (v : List ℤ) → Falsifies (sheet_of u p) v ↔ (Fitting u (start_in u v) × FailsAlong u p (start_in u v) (given_in u v))
+both_ways u sensible p path v =
+    let whole = take-append-drop (2 * length u.variables) v in (
+      λ f.
+          let s = spelled_out u p v f in
+          let enough : 2 * length u.variables ≤ length v = omega (arith, s.3, ap length s.2, length-append s.0 s.1) in
+          (starts_and_gives u sensible p path (start_in u v) (given_in u v) (length-take-le (2 * length u.variables) v enough)).0 (subst (Falsifies (sheet_of u p)) (sym whole) f),
+      λ r. subst (Falsifies (sheet_of u p)) whole ((starts_and_gives u sensible p path (start_in u v) (given_in u v) (length-fitting u (start_in u v) r.0)).1 r),
+    )
+
+pub one_to_one : (u : JUnit) (start given v : List ℤ) → Fitting u start → ((start_in u v ≡ start) × (given_in u v ≡ given)) ↔ (v ≡ start ++ given)
+one_to_one u start given v h =
+    let n = 2 * length u.variables in
+    let l = length-fitting u start h in (
+      λ e. sym (take-append-drop n v) ∙ ap₂ ◌++◌ e.0 e.1,
+      λ e. (ap (take n) e ∙ take_at start given n l, ap (drop n) e ∙ drop_at start given n l),
+    )

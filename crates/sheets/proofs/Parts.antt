@@ -25,7 +25,7 @@ truth_holds : (b : Bool) → truth b ≡ pos 1 → b ≡ true
 truth_holds true e = refl
 truth_holds false e = absurd (omega (arith, ints, e))
 
-equals : (a b : ℤ) → truth (same_number a b) ≡ pos 1 → a ≡ b
+pub equals : (a b : ℤ) → truth (same_number a b) ≡ pos 1 → a ≡ b
 equals a b e = let same = truth_holds (same_number a b) e in grind (arith, ints)
 
 equals_back : (a b : ℤ) → a ≡ b → truth (same_number a b) ≡ pos 1

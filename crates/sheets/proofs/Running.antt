@@ -1,7 +1,6 @@
 -- Every run that fails ends in one along a path, and those are runs.
 use Rattle.std.proofs.Common.{◌≡◌, ℕ, zero, suc, ◌+◌, ◌*◌, true, ◌≢◌, ◌⊎◌, List, [], ◌∷◌, ◌++◌, get_or, set, ℤ, refl, sym, ap, ◌∙◌, subst, inl, inr, ⊎_elim, arith, true≢false}
 use Rattle.std.proofs.lemmas.Bool.{and_parts, and_from, cases_Bool}
-use Rattle.std.proofs.lemmas.List.{length-map}
 use Rattle.flow.specs.declared.step.Step.{Step}
 use Rattle.flow.specs.declared.step.Step.TheVariants as step
 use Rattle.flow.specs.Steps.{at, is_break, is_require}
@@ -18,8 +17,7 @@ use Rattle.sheets.specs.Runs.{sentence, are_of, with_shadows, types_at, Fitting,
 use Rattle.sheets.specs.PathSheets.{sheet_of}
 use Rattle.sheets.specs.Valuations.{Falsifies}
 use Rattle.sheets.specs.Matches.{Sensible, Matches}
-use Rattle.sheets.proofs.Typing.{length-are_of, length-with_shadows}
-use Rattle.sheets.proofs.Matching.{step_here, both_ways, spelled_out}
+use Rattle.sheets.proofs.Matching.{step_here, length-fitting, starts_and_gives, both_ways, one_to_one}
 
 -- ---- stores go on fitting
 one_stored : (ds : List Domain) (s : List ℤ) (v : ℕ) (x d : ℤ) → are_of (with_shadows ds) s ≡ true → within (domain_bounds (get_or ds v Integer)) x ≡ true → within (domain_bounds Boolean) d ≡ true
@@ -88,16 +86,16 @@ along_is_run u [] path start given fit f = absurd path
 along_is_run u (i ∷ rest) path start given fit f = onward_fails u i rest start given (starts path.0 fit) f
 
 -- ---- the theorem
-no_hidden_run : (u : JUnit) → Sensible u → ((p : List ℕ) → Path (steps_of u) p → (v : List ℤ) → Falsifies (sheet_of u p) v → ⊥) → Fails u → ⊥
-no_hidden_run u sensible clear fails =
+on_a_sheet : (u : JUnit) → Sensible u → Fails u → (p : List ℕ) × (v : List ℤ) × Path (steps_of u) p × Falsifies (sheet_of u p) v
+on_a_sheet u sensible fails =
     let b = failing_path u fails in
-    let l = length-are_of (with_shadows (domains u)) b.start b.fitting ∙ length-with_shadows (domains u) ∙ ap (λ n. 2 * n) (length-map u.variables (λ d. d.domain)) in
-    clear b.places b.path (b.start ++ b.given) ((both_ways u sensible b.places b.path b.start b.given l).1 (b.fitting, b.failing))
+    (b.places, b.start ++ b.given, b.path, (starts_and_gives u sensible b.places b.path b.start b.given (length-fitting u b.start b.fitting)).1 (b.fitting, b.failing))
 
 pub matches : (u : JUnit) → Sensible u → Matches u
 matches u sensible = record {
   both_ways = both_ways u sensible;
-  spelled_out = spelled_out u;
+  one_to_one = one_to_one u;
   along_is_run = along_is_run u;
-  no_hidden_run = no_hidden_run u sensible;
+  on_a_sheet = on_a_sheet u sensible;
+  no_hidden_run = λ clear fails. let f = on_a_sheet u sensible fails in clear f.0 f.2 f.1 f.3;
 }

@@ -1,6 +1,8 @@
 -- What is laid out as a store, and cells in which to look it up.
-use Rattle.std.proofs.Common.{◌≡◌, ℕ, ◌+◌, ◌*◌, ◌<◌, List, [], ◌∷◌, ◌++◌, map, length, get_or, set, drop, refl, sym, ap, ◌∙◌, arith, length-set}
+use Rattle.std.proofs.Common.{◌≡◌, ℕ, ◌+◌, ◌*◌, ◌<◌, ◌≤◌, List, [], ◌∷◌, ◌++◌, map, length, get_or, set, drop, refl, sym, ap, ◌∙◌, arith, length-set}
 use Rattle.std.proofs.lemmas.List.{map-set, get_or-drop, drop-drop, drop_at, get_or-map}
+use Rattle.std.proofs.ByRecursion.{All-set}
+use Rattle.std.specs.List.{AllByRecursion as All}
 use Rattle.jcode.specs.declared.mention.Aspect.{Aspect}
 use Rattle.jcode.specs.declared.mention.Aspect.TheVariants.{Value, Shadow}
 use Rattle.jcode.specs.declared.mention.Mention.{Mention}
@@ -27,12 +29,28 @@ pub length-cells_from : {X : Type 0} (n : ℕ) (xs : List X) → length (cells_f
 length-cells_from n [] = refl
 length-cells_from n (x ∷ xs) = omega (arith, length-cells_from (n + 2) xs)
 
+pub entry_below : (a : Aspect) (v k : ℕ) → v < k → entry_of a v < 2 * k
+entry_below Value v k h = omega arith
+entry_below Shadow v k h = omega arith
+
+-- what holds of all that is put in and of all that was there holds of all
+pub All-stored : {X : Type 0} (P : X → Type 0) (vs : List ℕ) (xs s : List X) → All P xs → All P s → All P (stored vs xs s)
+All-stored P [] xs s h k = k
+All-stored P (v ∷ vs) [] s h k = k
+All-stored P (v ∷ vs) (x ∷ []) s h k = k
+All-stored P (v ∷ vs) (x ∷ d ∷ xs) s h k =
+    All-stored P vs xs (set (set s (2 * v) x) (2 * v + 1) d) h.1.1 (All-set P (set s (2 * v) x) (2 * v + 1) d h.1.0 (All-set P s (2 * v) x h.0 k))
+
+pub cells_below : {X : Type 0} (m n : ℕ) (xs : List X) → n + 2 * length xs ≤ m → All (λ c. c < m) (cells_from n xs)
+cells_below m n [] h = tt
+cells_below m n (x ∷ xs) h = (omega arith, (omega arith, cells_below m (n + 2) xs (omega arith)))
+
 -- what cells hold, each by its number in a list
 abbrev pub looked : {X : Type 0} → List X → X → List ℕ → List X
 looked held absent cs = map (λ c. get_or held c absent) cs
 
 module _ {X : Type 0} (held : List X) (absent : X) where
-  at_drop : (n k : ℕ) (xs : List X) → drop n held ≡ xs → get_or held (n + k) absent ≡ get_or xs k absent
+  pub at_drop : (n k : ℕ) (xs : List X) → drop n held ≡ xs → get_or held (n + k) absent ≡ get_or xs k absent
   at_drop n k xs e = sym (get_or-drop n held k absent) ∙ ap (λ l. get_or l k absent) e
 
   -- cells that are numbered on hold what comes next
@@ -55,8 +73,7 @@ module _ {X : Type 0} (held : List X) (absent : X) where
   read_looked k before after p q m h = entries m.aspect m.stage m.variable h
     where
       at : (cs : List ℕ) → length cs ≡ 2 * k → (a : Aspect) (v : ℕ) → v < k → get_or held (get_or cs (entry_of a v) 0) absent ≡ get_or (looked held absent cs) (entry_of a v) absent
-      at cs l Value v h = sym (get_or-map (λ c. get_or held c absent) cs (2 * v) 0 absent (omega arith))
-      at cs l Shadow v h = sym (get_or-map (λ c. get_or held c absent) cs (2 * v + 1) 0 absent (omega arith))
+      at cs l a v h = let inside = entry_below a v k h in sym (get_or-map (λ c. get_or held c absent) cs (entry_of a v) 0 absent (omega arith))
 
       entries : (a : Aspect) (t : Stage) (v : ℕ) → v < k → get_or held (get_or (staged t before after) (entry_of a v) 0) absent ≡ get_or (staged t (looked held absent before) (looked held absent after)) (entry_of a v) absent
       entries a Current v h = at before p a v h

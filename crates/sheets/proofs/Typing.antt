@@ -49,7 +49,7 @@ within_split (c ∷ cs) ds (x ∷ v) w l h =
 abbrev pub unset : Cell → Cell
 unset c = record c { set_by = None }
 
-unset_all : (ds : List Domain) → map unset (map (cell_of None) ds) ≡ map (cell_of None) ds
+pub unset_all : (ds : List Domain) → map unset (map (cell_of None) ds) ≡ map (cell_of None) ds
 unset_all [] = refl
 unset_all (d ∷ ds) = ap (λ cs. cell_of None d ∷ cs) (unset_all ds)
 

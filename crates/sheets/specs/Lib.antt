@@ -5,6 +5,9 @@ pub mod Valuations
 pub mod Judges
 pub mod Runs
 pub mod PathSheets
+pub mod Currents
 pub mod Matches
 pub mod Settling
+pub mod Writings
 pub mod Places
+pub mod PathExamples

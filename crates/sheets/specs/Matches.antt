@@ -1,5 +1,5 @@
 -- How the sheets of a unit's paths match the runs of the unit.
-use Rattle.std.specs.Prelude.{◌≡◌, ◌↔◌, ℕ, ◌*◌, Bool, true, ◌&&◌, List, [], ◌++◌, length, ℤ, nat_lt}
+use Rattle.std.specs.Prelude.{◌≡◌, ◌↔◌, ℕ, ◌*◌, Bool, true, ◌&&◌, List, [], ◌++◌, length, take, drop, ℤ, nat_lt}
 use Rattle.std.specs.List.{list_all}
 use Rattle.flow.specs.Paths.{Path}
 use Rattle.jcode.specs.declared.span.Span.{Span}
@@ -35,14 +35,23 @@ pub record Sensible (u : JUnit) : Type 0 where
   pub kinds : (i : ℕ) → kinds_kept (domains u) (sentence u i) ≡ true
   pub spans : (i : ℕ) → span_kept (domains u) (sentence u i) ≡ true
 
+-- the run that a valuation of a path's sheet spells out: its start is the first cells, and its statements give the added cells
+abbrev pub start_in : JUnit → List ℤ → List ℤ
+start_in u v = take (2 * length u.variables) v
+
+abbrev pub given_in : JUnit → List ℤ → List ℤ
+given_in u v = drop (2 * length u.variables) v
+
 -- a path's sheet says of the path neither more nor less than the runs along it do
 pub record Matches (u : JUnit) : Type 0 where
-  -- the valuations that falsify it are the runs along the path that fail at its REQUIRE: the first cells are the start, and the added cells are what the statements give
-  pub both_ways : (p : List ℕ) → Path (steps_of u) p → (start given : List ℤ) → length start ≡ 2 * length u.variables
-      → Falsifies (sheet_of u p) (start ++ given) ↔ (Fitting u start × FailsAlong u p start given)
-  pub spelled_out : (p : List ℕ) (v : List ℤ) → Falsifies (sheet_of u p) v → (start : List ℤ) × (given : List ℤ) × (v ≡ start ++ given) × (length start ≡ 2 * length u.variables)
-  -- a run along a path is a run, and every run that fails ends in one along a path
+  -- a valuation falsifies it exactly if the run that it spells out starts fittingly and fails at the path's REQUIRE
+  pub both_ways : (p : List ℕ) → Path (steps_of u) p → (v : List ℤ) → Falsifies (sheet_of u p) v ↔ (Fitting u (start_in u v) × FailsAlong u p (start_in u v) (given_in u v))
+  -- every run that starts fittingly is spelled out by one valuation, and by no other
+  pub one_to_one : (start given v : List ℤ) → Fitting u start → ((start_in u v ≡ start) × (given_in u v ≡ given)) ↔ (v ≡ start ++ given)
+  -- a run along a path is a run, and where a run fails some path's sheet is falsified
   pub along_is_run : (p : List ℕ) → Path (steps_of u) p → (start given : List ℤ) → Fitting u start → FailsAlong u p start given → Fails u
+  pub on_a_sheet : Fails u → (p : List ℕ) × (v : List ℤ) × Path (steps_of u) p × Falsifies (sheet_of u p) v
+  -- so if no valuation falsifies the sheet of a path, no run fails
   pub no_hidden_run : ((p : List ℕ) → Path (steps_of u) p → (v : List ℤ) → Falsifies (sheet_of u p) v → ⊥) → Fails u → ⊥
 
 -- the sheet of every path of a unit keeps the rules of sheets

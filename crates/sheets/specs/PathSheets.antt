@@ -1,6 +1,8 @@
 -- The sheet of a path, statement by statement.
 use Rattle.std.specs.Prelude.{ℕ, ◌+◌, ◌*◌, List, [], ◌∷◌, ◌++◌, map, length, Some, None, Option, slice_index_or}
+use Rattle.std.specs.List.{flat_map}
 use Rattle.terms.specs.declared.operator.Operator.TheVariants.{Equal}
+use Rattle.terms.specs.declared.row.Row.{Row}
 use Rattle.terms.specs.declared.row.Row.TheVariants.{Mention, Operator as Applied}
 use Rattle.terms.specs.Terms.{map_mentions}
 use Rattle.jcode.specs.declared.variable.Domain.{Domain}
@@ -10,6 +12,7 @@ use Rattle.jcode.specs.Sentences.{Sentence, Hang, Break, Require, Proclaim, New,
 use Rattle.jcode.specs.Units.{JUnit}
 use Rattle.checking.specs.Types.{domains, domain_kind, domain_bounds}
 use Rattle.sheets.specs.declared.cell.Cell.{Cell}
+use Rattle.sheets.specs.declared.part.Part.{Part}
 use Rattle.sheets.specs.Runs.{sentence, with_shadows, types_at, stored, read, listed}
 use Rattle.sheets.specs.Sheets.{CellTerm, Condition}
 
@@ -84,3 +87,11 @@ started u = record { cells = 2 * length u.variables; parts = 0; current = cells_
 -- the condition of a path
 abbrev pub sheet_of : JUnit → List ℕ → Condition
 sheet_of u p = record { parts = parts_along u (started u) p; cells = map (cell_of None) (with_shadows (domains u)) ++ cells_along u (started u) p }
+
+-- parts in tables: their rows back to back, and where each stands, from a place on
+abbrev pub rows_of : List CellTerm → List (Row ℕ)
+rows_of es = flat_map (λ e. e) es
+
+abbrev pub laid_from : ℕ → List CellTerm → List Part
+laid_from first [] = []
+laid_from first (e ∷ es) = record { first = first; rows = length e } ∷ laid_from (first + length e) es

@@ -13,13 +13,13 @@ use Rattle.sheets.specs.Sheets.{Condition, condition_of}
 use Rattle.sheets.specs.Tables.{IsSheet}
 
 abbrev pub rows_in : Sheet → List (Row ℕ)
-rows_in s = s.rows.now
+rows_in s = s.tables.rows.now
 
 abbrev pub parts_in : Sheet → List Part
-parts_in s = s.parts.now
+parts_in s = s.tables.parts.now
 
 abbrev pub cells_in : Sheet → List Cell
-cells_in s = s.cells.now
+cells_in s = s.tables.cells.now
 
 abbrev pub says : Sheet → Condition
 says s = condition_of (rows_in s) (parts_in s) (cells_in s)

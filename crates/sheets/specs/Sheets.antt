@@ -1,5 +1,5 @@
 -- Sheets: the condition of one path, over numbered cells.
-use Rattle.std.specs.Prelude.{◌≡◌, ℕ, ◌+◌, ◌-◌, ◌<◌, Bool, true, ◌&&◌, List, [], ◌∷◌, length, map, take, drop, ℤ, pos, Some, None, Option, int_le, nat_lt, slice_index_or}
+use Rattle.std.specs.Prelude.{◌≡◌, ℕ, ◌+◌, ◌-◌, ◌<◌, Bool, true, false, ◌&&◌, List, [], ◌∷◌, length, map, take, drop, ℤ, pos, Some, None, Option, int_le, nat_eq, nat_lt, position, slice_index_or}
 use Rattle.std.specs.List.{list_all, slice_get}
 use Rattle.std.specs.Option.{option_map}
 use Rattle.terms.specs.declared.kind.Kind.{Kind}
@@ -49,6 +49,18 @@ cell_bounds cs i = option_map (λ c. between c.low c.high) (slice_get cs i)
 
 abbrev pub set_by : List Cell → ℕ → Option ℕ
 set_by cs i = slice_index_or (map (λ c. c.set_by) cs) i None
+
+-- that it is there, and is this number
+abbrev pub is_some_of : ℕ → Option ℕ → Bool
+is_some_of p None = false
+is_some_of p (Some q) = nat_eq q p
+
+abbrev pub is_set_by : ℕ → Cell → Bool
+is_set_by p c = is_some_of p c.set_by
+
+-- the cell that part p sets
+abbrev pub cell_set : Condition → ℕ → Option ℕ
+cell_set c p = position (is_set_by p) c.cells
 
 -- where numbers of a kind lie: truths from 0 to 1, numbers in the span
 abbrev pub is_bound : Kind → ℤ → Bool

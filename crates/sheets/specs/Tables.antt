@@ -1,5 +1,5 @@
 -- The rules of sheets as a test of tables.
-use Rattle.std.specs.Prelude.{ℕ, ◌+◌, Bool, true, false, ◌&&◌, List, [], ◌∷◌, length, Some, None, Option, nat_lt, nat_eq}
+use Rattle.std.specs.Prelude.{ℕ, ◌+◌, Bool, true, false, cond, ◌&&◌, List, [], ◌∷◌, length, Some, None, Option, nat_lt, nat_le, nat_eq}
 use Rattle.std.specs.List.{list_all, enumerate_from}
 use Rattle.terms.specs.declared.operator.Operator.TheVariants.{Equal}
 use Rattle.terms.specs.declared.row.Row.{Row}
@@ -8,18 +8,26 @@ use Rattle.reckoning.specs.Spanning.{ranged_rows}
 use Rattle.checking.specs.Nesting.{writes_term}
 use Rattle.sheets.specs.declared.cell.Cell.{Cell}
 use Rattle.sheets.specs.declared.part.Part.{Part}
-use Rattle.sheets.specs.Sheets.{CellTerm, Condition, Keeps, condition_of, part, cell_bounds, is_below, is_bounded, is_true_term, fills_from}
+use Rattle.sheets.specs.Sheets.{CellTerm, Condition, Keeps, condition_of, part, cell_bounds, is_below, is_some_of, setting_term, is_bounded, is_true_term, fills_from}
 
--- parts stand back to back from a place of so many rows on, and fill them
-abbrev pub fills : ℕ → ℕ → List Part → Bool
-fills total used [] = nat_eq used total
-fills total used (p ∷ ps) = nat_eq p.first used && fills total (used + p.rows) ps
+-- the place after a part, if it stands at this place of so many rows
+abbrev pub after_part : ℕ → ℕ → Part → Option ℕ
+after_part total used p = cond (nat_eq p.first used && nat_le (used + p.rows) total) (Some (used + p.rows)) None
+
+-- from this place on, parts stand back to back and fill the rows
+abbrev pub fills : ℕ → Option ℕ → List Part → Bool
+fills total None ps = false
+fills total (Some used) [] = nat_eq used total
+fills total (Some used) (p ∷ ps) = fills total (after_part total used p) ps
+
+-- the cell that a part begins with `equal!` of
+abbrev pub first_cell : CellTerm → Option ℕ
+first_cell (Applied Equal ∷ Mention i ∷ e) = Some i
+first_cell _ = None
 
 -- `equal!` of cell i and a term over lower cells
 abbrev pub sets : ℕ → CellTerm → Bool
-sets i [] = false
-sets i (Applied Equal ∷ Mention j ∷ e) = nat_eq j i && list_all (is_below i) e
-sets i _ = false
+sets i e = is_some_of i (first_cell e) && list_all (is_below i) (setting_term e)
 
 -- a part, which is not the goal, sets cell i, or none is said to set it
 abbrev pub is_set : Condition → ℕ → Option ℕ → Bool

@@ -2,9 +2,16 @@
 #![tactic(auto)]
 
 pub mod cell;
+mod current;
 pub mod desk;
 pub mod fault;
 pub mod judge;
 pub mod outcome;
+mod page;
 pub mod part;
+pub mod setting;
 pub mod sheet;
+mod writer;
+pub mod path;
+mod tables;
+mod term;

@@ -1,5 +1,5 @@
 -- Terms: rows in Polish notation, and the one fold that reads them.
-use Rattle.std.specs.Prelude.{◌≡◌, ℕ, ◌+◌, ◌-◌, ◌<◌, ◌≤◌, cond, List, [], ◌∷◌, map, length, take, drop, ℤ, pos, Some, None, Option, Ok, Err, Result, nat_le, slice_index_or}
+use Rattle.std.specs.Prelude.{◌≡◌, ℕ, ◌+◌, ◌-◌, ◌<◌, ◌≤◌, max, cond, List, [], ◌∷◌, map, length, take, drop, ℤ, pos, Some, None, Option, Ok, Err, Result, nat_le, slice_index_or}
 use Rattle.std.specs.List.{slice_get}
 use Rattle.terms.specs.declared.fold.Full.{Full}
 use Rattle.terms.specs.declared.operator.Operator.{Operator}
@@ -26,23 +26,35 @@ abbrev pub fold : {M X : Type 0} → Algebra M X → List (Row M) → List X
 fold g [] = []
 fold g (r ∷ rs) = onto g r (fold g rs)
 
+-- how many entries rows leave on the stack
+abbrev pub height : {M : Type 0} → List (Row M) → ℕ
+height [] = 0
+height (Constant z ∷ rs) = height rs + 1
+height (Mention m ∷ rs) = height rs + 1
+height (Applied o ∷ rs) = height rs - arity o + 1
+
+-- how many entries it takes to read them: each row finds one that is free
+abbrev pub entries_for : {M : Type 0} → List (Row M) → ℕ
+entries_for [] = 0
+entries_for (r ∷ rs) = max (entries_for rs) (height rs + 1)
+
 -- a call puts an entry on the stack that stands from `top` on, in the place of so many, and leaves what stands before the place in front of it; with no such place it does nothing
 abbrev pub Replaced : {X : Type 0} → ℕ → X → List X → ℕ → Result X Full → List X → ℕ → Type 0
 Replaced taken x before top (Err _) after next = (top ≡ 0) × (after ≡ before) × (next ≡ top)
 Replaced taken x before top (Ok y) after next =
-    (y ≡ x) × (top ≤ next + 1) × (next < length before) × (drop next after ≡ x ∷ drop taken (drop top before)) × (take (top - 1) after ≡ take (top - 1) before)
+    (y ≡ x) × (length after ≡ length before) × (top ≤ next + 1) × (next < length before) × (drop next after ≡ x ∷ drop taken (drop top before)) × (take (top - 1) after ≡ take (top - 1) before)
 
 -- a call reads one row onto the stack that stands from `top` on, tells the newest entry, and leaves what stands before the place in front of it; with no such place it does nothing
 abbrev pub FoldedRow : {M X : Type 0} → Algebra M X → Row M → List X → ℕ → Result X Full → List X → ℕ → Type 0
 FoldedRow g r before top (Err _) after next = (top ≡ 0) × (after ≡ before) × (next ≡ top)
 FoldedRow g r before top (Ok x) after next =
-    (0 < top) × (slice_get (onto g r (drop top before)) 0 ≡ Some x) × (top ≤ next + 1) × (next < length before) × (drop next after ≡ onto g r (drop top before)) × (take (top - 1) after ≡ take (top - 1) before)
+    (0 < top) × (slice_get (onto g r (drop top before)) 0 ≡ Some x) × (length after ≡ length before) × (top ≤ next + 1) × (next < length before) × (drop next after ≡ onto g r (drop top before)) × (take (top - 1) after ≡ take (top - 1) before)
 
--- a call reads rows onto a stack that stands from `top` on, at the end of its entries; with fewer entries than rows it does nothing
+-- a call reads rows onto a stack that stands from `top` on, at the end of its entries, and leaves those alone that it does not take; with too few of them it tells nothing
 abbrev pub Folded : {M X : Type 0} → Algebra M X → List (Row M) → List X → Option ℕ → List X → Type 0
-Folded g rs before None after = (length before < length rs) × (after ≡ before)
+Folded g rs before None after = length before < entries_for rs
 Folded g rs before (Some top) after =
-    (length rs ≤ length before) × (top ≤ length after) × (drop top after ≡ fold g rs) × (take (length before - length rs) after ≡ take (length before - length rs) before)
+    (entries_for rs ≤ length before) × (top ≤ length after) × (drop top after ≡ fold g rs) × (take (length before - entries_for rs) after ≡ take (length before - entries_for rs) before)
 
 -- a call that works out so many rows in lent entries leaves all but the last of them as they were, and all of them where they are fewer than the rows
 pub record Worked {X : Type 0} (rows : ℕ) (before after : List X) : Type 0 where
@@ -52,6 +64,10 @@ pub record Worked {X : Type 0} (rows : ℕ) (before after : List X) : Type 0 whe
 -- what the first row of a term comes to
 abbrev pub outcome : {M X : Type 0} → Algebra M X → List (Row M) → X
 outcome g rs = slice_index_or (fold g rs) 0 g.absent
+
+-- with fewer entries than it takes, nothing is told
+abbrev pub newest_in : {M X : Type 0} → Algebra M X → List (Row M) → ℕ → X
+newest_in g rs room = cond (nat_le (entries_for rs) room) (outcome g rs) g.absent
 
 -- with room for fewer entries than rows, nothing is read
 abbrev pub outcome_in : {M X : Type 0} → Algebra M X → List (Row M) → ℕ → X

@@ -2,7 +2,7 @@
 
 ghost use Rattle.std.specs.Prelude.{◌≡◌, ◌-◌, ◌<◌, ◌≤◌, length, take, drop, min, slice_index_or};
 ghost use Rattle.std.specs.List.{slice_get};
-ghost use Rattle.terms.specs.Terms.{Algebra, Replaced, FoldedRow, Folded, Worked, outcome_in};
+ghost use Rattle.terms.specs.Terms.{Algebra, Replaced, FoldedRow, Folded, Worked, entries_for, newest_in, outcome_in};
 
 use super::operator::Operator;
 use super::row::Row;
@@ -114,7 +114,7 @@ impl<'a, X: Copy> Stack<'a, X> {
     }
 }
 
-// Reads the rows onto a stack that stands at the end of the lent entries, its newest entry first, and tells where it begins; `None` if there are fewer entries than rows.
+// Reads the rows onto a stack that stands at the end of the lent entries, its newest entry first, and tells where it begins; `None` if reading takes more entries.
 pub fn fold<M: Copy, X: Copy, I: Interpretation<M, X>>(
     interpretation: &I,
     rows: &[Row<M>],
@@ -122,9 +122,6 @@ pub fn fold<M: Copy, X: Copy, I: Interpretation<M, X>>(
 ) -> Option<usize>
     ensures { Folded (I.algebra interpretation.now) rows.now entries.old result entries.new }
 {
-    if entries.len() < rows.len() {
-        return None;
-    }
     let mut stack = Stack::new(entries);
     for row in rows.iter().rev() {
         stack.read(interpretation, *row).ok()?;
@@ -132,7 +129,20 @@ pub fn fold<M: Copy, X: Copy, I: Interpretation<M, X>>(
     Some(stack.top)
 }
 
-// What the first row of a term comes to, with the entries as `fold` leaves them; what stands for an absent operand if there are no rows, or fewer entries than rows.
+// What the first row of a term comes to, with the entries as `fold` leaves them; what stands for an absent operand if there are no rows, or reading them takes more entries.
+pub fn newest<M: Copy, X: Copy, I: Interpretation<M, X>>(
+    interpretation: &I,
+    rows: &[Row<M>],
+    entries: &mut [X],
+) -> X
+    ensures value { result ≡ newest_in (I.algebra interpretation.now) rows.now (length entries.old) }
+    ensures others { take (length entries.old - entries_for rows.now) entries.new ≡ take (length entries.old - entries_for rows.now) entries.old }
+{
+    let newest = fold(interpretation, rows, entries).and_then(|top| entries.get(top).copied());
+    newest.unwrap_or(interpretation.absent())
+}
+
+// The same with an entry for each row; with fewer it touches none.
 pub fn outcome<M: Copy, X: Copy, I: Interpretation<M, X>>(
     interpretation: &I,
     rows: &[Row<M>],
@@ -141,6 +151,8 @@ pub fn outcome<M: Copy, X: Copy, I: Interpretation<M, X>>(
     ensures value { result ≡ outcome_in (I.algebra interpretation.now) rows.now (length entries.old) }
     ensures working { Worked (length rows.now) entries.old entries.new }
 {
-    let newest = fold(interpretation, rows, entries).and_then(|top| entries.get(top).copied());
-    newest.unwrap_or(interpretation.absent())
+    if entries.len() < rows.len() {
+        return interpretation.absent();
+    }
+    newest(interpretation, rows, entries)
 }

@@ -3,7 +3,7 @@ use Rattle.terms.proofs.Stacking.{Held}
 use Rattle.reckoning.specs.Evaluation.{marks_by}
 use Rattle.reckoning.specs.Ranges.{ranges}
 use Rattle.reckoning.specs.Spanning.{ranged_rows}
-use Rattle.reckoning.proofs.spanning.stays_in_span.Given as goal
+use Rattle.reckoning.proofs.spanning.are_ranged.Given as goal
 
 abbrev pub invariant-loop-row : goal.invariant-loop-row
 invariant-loop-row g l = record {

@@ -1,0 +1,178 @@
+// Writers: the sheet of a path, written statement by statement.
+
+ghost use Rattle.std.specs.Prelude.{◌≡◌, ◌+◌, ◌*◌, ◌<◌, ◌≤◌, suc, true, [], ◌∷◌, ◌++◌, map, length, Some, None, slice_index_or, nat_lt};
+ghost use Rattle.std.specs.List.{list_all};
+ghost use Rattle.terms.specs.Terms.{renamed};
+ghost use Rattle.jcode.specs.Units.{term_in, sentence_in};
+ghost use Rattle.jcode.specs.declared.variable.Domain.TheVariants.{Integer, Boolean};
+ghost use Rattle.jcode.specs.declared.statement.Statement.TheVariants.{Assign};
+ghost use Rattle.checking.specs.CheckedUnits.{said};
+ghost use Rattle.checking.specs.Types.{domains};
+ghost use Rattle.sheets.specs.Currents.{current_in};
+ghost use Rattle.sheets.specs.Matches.{terms_kept};
+ghost use Rattle.sheets.specs.PathSheets.{cell_of as cell_for, cells_from, cells_of, moved, over, parts_of};
+ghost use Rattle.sheets.specs.Runs.{listed, read, stored, types_at};
+
+use super::cell::{Cell, CellRow};
+use super::current::Current;
+use super::page::Page;
+use super::part::Part;
+use checking::term::term_rows;
+use checking::types::{domain_bounds, domain_kind};
+use checking::unit::CheckedUnit;
+use jcode::mention::{Mention, Stage, UnitRow};
+use jcode::statement::{Statement, Term};
+use jcode::variable::Domain;
+use terms::operator::Operator;
+use terms::row::Row;
+
+// The pages of a sheet, and the cells that stand for variables so far.
+#[derive(Drop)]
+pub(super) struct Writer<'a> {
+    pub(super) rows: Page<'a, CellRow>,
+    pub(super) parts: Page<'a, Part>,
+    pub(super) cells: Page<'a, Cell>,
+    pub(super) current: Current,
+}
+
+// The cell that a mention becomes.
+fn cell(before: &Current, after: &Current, mention: Mention) -> usize
+    ensures { result ≡ read 0 (current_in before.now) (current_in after.now) mention }
+{
+    match mention.stage {
+        Stage::Current => before.cell(mention),
+        Stage::New => after.cell(mention),
+    }
+}
+
+// A row, with a cell in the place of what it mentions.
+fn cell_row(before: &Current, after: &Current, row: UnitRow) -> CellRow
+    ensures { result ≡ renamed (read 0 (current_in before.now) (current_in after.now)) row }
+{
+    match row {
+        Row::Constant(number) => Row::Constant(number),
+        Row::Mention(mention) => Row::Mention(cell(before, after, mention)),
+        Row::Operator(operator) => Row::Operator(operator),
+    }
+}
+
+// A cell for numbers of a type.
+fn cell_of(domain: Domain, set_by: Option<usize>) -> Cell
+    ensures { result ≡ cell_for set_by domain }
+{
+    let bounds = domain_bounds(domain);
+    Cell {
+        kind: domain_kind(domain),
+        low: bounds.low,
+        high: bounds.high,
+        set_by,
+    }
+}
+
+// The type of a variable; past the last one there is none to be asked for.
+fn domain_of(unit: &CheckedUnit<'_>, variable: usize) -> Domain
+    ensures { result ≡ slice_index_or (domains (said unit.now)) variable Integer }
+{
+    unit.domain(variable).unwrap_or(Domain::Integer)
+}
+
+impl Page<'_, CellRow> {
+    ghost use Rattle.sheets.specs.Writings.{Extends, Counts};
+
+    // A term, with cells in the place of what it mentions.
+    fn term(&mut self, term: &[UnitRow], before: &Current, after: &Current)
+        requires { Counts self.old (length term.now) }
+        ensures { Extends self.old (over (current_in before.now) (current_in after.now) term.now) self.new }
+    {
+        for row in term {
+            self.push(cell_row(before, after, *row));
+        }
+    }
+}
+
+impl Writer<'_> {
+    ghost use Rattle.sheets.specs.Writings.{Writes, Counts, CountsAll, progress, headed};
+
+    // A part, which may set a cell.
+    fn part(&mut self, set: Option<usize>, term: &[UnitRow], after: &Current)
+        requires { CountsAll self.old (headed set (over (current_in self.old.current) (current_in after.now) term.now) ∷ []) [] }
+        ensures { Writes self.old (headed set (over (current_in self.old.current) (current_in after.now) term.now) ∷ []) [] (current_in self.old.current) self.new }
+    {
+        let first = self.rows.count;
+        if let Some(cell) = set {
+            self.rows.push(Row::Operator(Operator::Equal));
+            self.rows.push(Row::Mention(cell));
+        }
+        let before = self.current;
+        self.rows.term(term, &before, after);
+        let rows = self.rows.count - first;
+        self.parts.push(Part { first, rows });
+    }
+
+    // Two cells, for a value of a type and for a shadow, with the parts that set them.
+    fn two_cells(&mut self, domain: Domain, value_by: Option<usize>, shadow_by: Option<usize>)
+        requires { Counts self.old.cells 2 }
+        ensures { Writes self.old [] (cell_for value_by domain ∷ cell_for shadow_by Boolean ∷ []) (current_in self.old.current) self.new }
+    {
+        self.cells.push(cell_of(domain, value_by));
+        self.cells.push(cell_of(Domain::Boolean, shadow_by));
+    }
+
+    // Two cells for each variable that is listed, and the current cells with these in place.
+    fn new_cells(&mut self, unit: &CheckedUnit<'_>, listed: &[usize]) -> Current
+        requires counts { Counts self.old.cells (2 * length listed.now) }
+        requires known { list_all (λ v. nat_lt (2 * v + 1) self.old.current.count) listed.now ≡ true }
+        ensures writes { Writes self.old [] (map (cell_for None) (types_at (said unit.now) listed.now)) (current_in self.old.current) self.new }
+        ensures size { result.count ≡ self.old.current.count }
+        ensures put { current_in result ≡ stored listed.now (cells_from self.old.cells.count listed.now) (current_in self.old.current) }
+    {
+        let mut after = self.current;
+        for variable in listed {
+            after.put(*variable, self.cells.count);
+            self.two_cells(domain_of(unit, *variable), None, None);
+        }
+        after
+    }
+
+    // The two parts of an ASSIGN, which set its two cells; both terms read the cells from before it.
+    fn assign(&mut self, unit: &CheckedUnit<'_>, variable: usize, shadow: Term, value: Term)
+        requires counts { CountsAll self.old (parts_of (progress self.old) (sentence_in unit.now.tables.rows.now (Assign variable shadow value))) (cells_of (said unit.now) (progress self.old) (sentence_in unit.now.tables.rows.now (Assign variable shadow value))) }
+        requires known { 2 * variable + 1 < self.old.current.count }
+        ensures { Writes self.old (parts_of (progress self.old) (sentence_in unit.now.tables.rows.now (Assign variable shadow value))) (cells_of (said unit.now) (progress self.old) (sentence_in unit.now.tables.rows.now (Assign variable shadow value))) (moved (progress self.old) (sentence_in unit.now.tables.rows.now (Assign variable shadow value))) self.new }
+    {
+        let (cell, part, before) = (self.cells.count, self.parts.count, self.current);
+        self.two_cells(domain_of(unit, variable), Some(part), Some(part + 1));
+        self.part(Some(cell), term_rows(unit.rows(), value), &before);
+        self.part(Some(cell + 1), term_rows(unit.rows(), shadow), &before);
+        self.current.put(variable, cell);
+    }
+
+    // What a statement adds to the sheet.
+    pub(super) fn statement(&mut self, unit: &CheckedUnit<'_>, statement: Statement)
+        requires counts { CountsAll self.old (parts_of (progress self.old) (sentence_in unit.now.tables.rows.now statement)) (cells_of (said unit.now) (progress self.old) (sentence_in unit.now.tables.rows.now statement)) }
+        requires known { list_all (λ v. nat_lt (2 * v + 1) self.old.current.count) (listed (sentence_in unit.now.tables.rows.now statement)) ≡ true }
+        ensures { Writes self.old (parts_of (progress self.old) (sentence_in unit.now.tables.rows.now statement)) (cells_of (said unit.now) (progress self.old) (sentence_in unit.now.tables.rows.now statement)) (moved (progress self.old) (sentence_in unit.now.tables.rows.now statement)) self.new }
+    {
+        let (rows, before) = (unit.rows(), self.current);
+        match statement {
+            Statement::Require { condition, .. }
+            | Statement::Proclaim { condition }
+            | Statement::When { condition, .. } => {
+                self.part(None, term_rows(rows, condition), &before);
+            }
+            Statement::New {
+                listing, condition, ..
+            } => {
+                let after = self.new_cells(unit, listing.listed());
+                self.part(None, term_rows(rows, condition), &after);
+                self.current = after;
+            }
+            Statement::Assign {
+                variable,
+                shadow,
+                value,
+            } => self.assign(unit, variable, shadow, value),
+            _ => {}
+        }
+    }
+}
