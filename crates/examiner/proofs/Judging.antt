@@ -8,14 +8,14 @@ use Rattle.checking.specs.Breaks.{steps_of}
 use Rattle.sheets.specs.declared.outcome.Outcome.{Outcome}
 use Rattle.sheets.specs.declared.outcome.Outcome.TheVariants.{Passed, Failed, Open}
 use Rattle.sheets.specs.Judges.{Opinion, passed, failed, unsure}
-use Rattle.sheets.specs.Matches.{Matches, SheetsKeep}
+use Rattle.sheets.specs.Matches.{Matches, SheetsKeep, start_in, given_in}
 use Rattle.sheets.specs.PathSheets.{sheet_of}
 use Rattle.sheets.specs.Runs.{Fails}
 use Rattle.sheets.specs.Settling.{Held, Settles, Settled, condition}
 use Rattle.sheets.specs.Sheets.{Condition}
 use Rattle.sheets.specs.Valuations.{Falsifies}
 use Rattle.examiner.specs.Histories.{Settlement}
-use Rattle.examiner.specs.Promises.{opinion_in, Refuted, SpellsRun, Just, HasSettled}
+use Rattle.examiner.specs.Promises.{opinion_in, Refuted, SpellsFailure, Just, HasSettled}
 use Rattle.examiner.specs.Steps.{path_count}
 
 -- what a check sees to, of a unit's paths and their sheets
@@ -42,14 +42,12 @@ failed_as c (failed w) o v (inr s) = (
 )
 failed_as c unsure o v s = (λ e. let x = s.0 in cc, λ e. let x = e.1.0 in cc)
 
-spelled_run : (u : JUnit) → Sure u → (k : ℕ) → k < path_count u → (w : List ℤ) → Falsifies (condition u k) w → SpellsRun u (nth (steps_of u) k) w × Fails u
+spelled_run : (u : JUnit) → Sure u → (k : ℕ) → k < path_count u → (w : List ℤ) → Falsifies (condition u k) w → SpellsFailure u (nth (steps_of u) k) w × Fails u
 spelled_run u sure k l w f =
     let p = nth (steps_of u) k in
     let path = sure.numbered.each_is_path k l in
-    let cut = sure.matches.spelled_out p w f in
-    let both = sure.matches.both_ways p path cut.0 cut.1 cut.3 in
-    let run = both.0 (subst (Falsifies (sheet_of u p)) cut.2 f) in
-    ((cut.0, cut.1, cut.2, run.0, run.1), sure.matches.along_is_run p path cut.0 cut.1 run.0 run.1)
+    let run = (sure.matches.both_ways p path w).0 f in
+    (run, sure.matches.along_is_run p path (start_in u w) (given_in u w) run.0 run.1)
 
 pub just : (u : JUnit) → Sure u → (s : Settlement) (before after : Held) → s.number < path_count u → Settled (condition u s.number) (opinion_in u s) s.outcome before after → Just u s
 just u sure s before after l x = record {

@@ -3,3 +3,4 @@ pub mod Counting
 pub mod Judging
 pub mod Keeping
 pub mod Stepping
+pub mod Promising

@@ -8,6 +8,7 @@ use Rattle.sheets.specs.declared.outcome.Outcome.{Outcome}
 use Rattle.sheets.specs.declared.outcome.Outcome.TheVariants.{Passed, Failed, Open}
 use Rattle.sheets.specs.Faults.{refused}
 use Rattle.sheets.specs.Judges.{Opinion, passed, failed}
+use Rattle.sheets.specs.Matches.{start_in, given_in}
 use Rattle.sheets.specs.Runs.{Fitting, Fails, FailsAlong}
 use Rattle.sheets.specs.Settling.{condition}
 use Rattle.sheets.specs.Valuations.{Falsifies}
@@ -25,14 +26,14 @@ abbrev pub Refuted : JUnit → Settlement → List ℤ → Type 0
 Refuted u s w = (opinion_in u s ≡ failed w) × Falsifies (condition u s.number) w
 
 -- a valuation spells out a run along a path that fails at the REQUIRE in which it ends
-abbrev pub SpellsRun : JUnit → List ℕ → List ℤ → Type 0
-SpellsRun u p w = (start : List ℤ) × (given : List ℤ) × (w ≡ start ++ given) × Fitting u start × FailsAlong u p start given
+abbrev pub SpellsFailure : JUnit → List ℕ → List ℤ → Type 0
+SpellsFailure u p w = Fitting u (start_in u w) × FailsAlong u p (start_in u w) (given_in u w)
 
 -- an accepted settlement is as its judge found its path's condition
 pub record Just (u : JUnit) (s : Settlement) : Type 0 where
   pub passed : s.outcome ≡ Passed ↔ (opinion_in u s ≡ passed)
   pub failed : s.outcome ≡ Failed ↔ ((w : List ℤ) × Refuted u s w)
-  pub spelled : (w : List ℤ) → Refuted u s w → SpellsRun u (nth (steps_of u) s.number) w × Fails u
+  pub spelled : (w : List ℤ) → Refuted u s w → SpellsFailure u (nth (steps_of u) s.number) w × Fails u
 
 -- the condition of this number has been settled as this
 abbrev pub HasSettled : ℕ → Outcome → List Settlement → Type 0

@@ -44,13 +44,7 @@ impl<'a> Examination<'a> {
     fn settled(&self) -> usize
         ensures { result ≡ total self.now.tally }
     {
-        let Tally {
-            passed,
-            failed,
-            open,
-            ..
-        } = self.tally;
-        passed + failed + open
+        self.tally.passed + self.tally.failed + self.tally.open
     }
 
     // The slip of the next condition.
@@ -100,6 +94,18 @@ impl<'a> Examination<'a> {
             Judgement::Open
         } else {
             Judgement::Cleared
+        }
+    }
+    // What all calls so far come to.
+    pub fn verdict(&self) -> Verdict
+        ensures next { Goes (told result) self.now self.now }
+        ensures promised { Promised self.now result }
+    {
+        Verdict {
+            passed: self.tally.passed,
+            failed: self.tally.failed,
+            open: self.tally.open,
+            judgement: self.judgement(),
         }
     }
 }
