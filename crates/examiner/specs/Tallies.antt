@@ -1,10 +1,11 @@
 -- Tallies: what an examination remembers of its history.
-use Rattle.std.specs.Prelude.{◌≡◌, ℕ, ◌+◌, true, is_some}
+use Rattle.std.specs.Prelude.{◌≡◌, ℕ, ◌+◌, true, false, is_some}
 use Rattle.jcode.specs.Units.{JUnit}
+use Rattle.sheets.specs.declared.outcome.Outcome.{Outcome}
 use Rattle.sheets.specs.declared.outcome.Outcome.TheVariants.{Passed, Failed, Open}
 use Rattle.examiner.specs.declared.slip.Slip.{Slip}
 use Rattle.examiner.specs.declared.tally.Tally.{Tally}
-use Rattle.examiner.specs.Histories.{History, accepted, out, how_many, first_failed}
+use Rattle.examiner.specs.Histories.{History, accepted, out, one_if, how_many, or_now, first_failed}
 use Rattle.examiner.specs.Steps.{Happened}
 
 -- how many conditions are settled
@@ -24,6 +25,16 @@ summed h = record {
   «open» = how_many Open (accepted h);
   lowest = first_failed (accepted h);
   out = is_some (out h);
+}
+
+-- after the condition of the slip that was out is settled
+abbrev pub counted : Tally → ℕ → Outcome → Tally
+counted t n o = record {
+  passed = t.passed + one_if Passed o;
+  failed = t.failed + one_if Failed o;
+  «open» = t.open + one_if Open o;
+  lowest = or_now t.lowest o n;
+  out = false;
 }
 
 -- this history of an examination of the unit with the tag comes to this
