@@ -6,7 +6,7 @@ use Rattle.sheets.specs.declared.outcome.Outcome.TheVariants.{Passed, Failed, Op
 use Rattle.examiner.specs.Histories.{Settlement, one_if, how_many, or_now, first_failed}
 use Rattle.examiner.specs.Promises.{HasSettled, InOrder}
 
-one_each : (o : Outcome) → one_if Passed o + one_if Failed o + one_if Open o ≡ 1
+pub one_each : (o : Outcome) → one_if Passed o + one_if Failed o + one_if Open o ≡ 1
 one_each Passed = refl
 one_each Failed = refl
 one_each Open = refl

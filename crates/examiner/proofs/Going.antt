@@ -35,11 +35,11 @@ going u tag (took (Ok l) ∷ h) x =
     let g = going u tag h x.1 in
     record { few = g.few; due = λ m e. let same : l ≡ m = cc in subst (Due u tag (length (accepted h))) same (due_next u tag _ (out h) l x.0); in_order = g.in_order }
 going u tag (took (Err f) ∷ h) x = going u tag h x.1
-going u tag (settled j l before (Ok o) after ∷ h) x =
+going u tag (settled m l before (Ok o) after ∷ h) x =
     let g = going u tag h x.1 in
-    let d = g.due l x.0.0 in
+    let d = g.due l x.0.1 in
     record { few = omega (arith, d.left); due = λ m e. cc; in_order = (d.number, g.in_order) }
-going u tag (settled j l before (Err e) after ∷ h) x = going u tag h x.1
+going u tag (settled m l before (Err e) after ∷ h) x = going u tag h x.1
 going u tag (handed_back l (Ok w) ∷ h) x = let g = going u tag h x.1 in record { few = g.few; due = λ m e. cc; in_order = g.in_order }
 going u tag (handed_back l (Err e) ∷ h) x = going u tag h x.1
 going u tag (told v ∷ h) x = going u tag h x.1

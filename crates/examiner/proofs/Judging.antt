@@ -7,7 +7,7 @@ use Rattle.jcode.specs.Units.{JUnit}
 use Rattle.checking.specs.Breaks.{steps_of}
 use Rattle.sheets.specs.declared.outcome.Outcome.{Outcome}
 use Rattle.sheets.specs.declared.outcome.Outcome.TheVariants.{Passed, Failed, Open}
-use Rattle.sheets.specs.Judges.{Opinion, passed, failed, unsure}
+use Rattle.sheets.specs.Judges.{Opinion, Sound, passed, failed, unsure}
 use Rattle.sheets.specs.Matches.{Matches, SheetsKeep, start_in, given_in}
 use Rattle.sheets.specs.PathSheets.{sheet_of}
 use Rattle.sheets.specs.Runs.{Fails}
@@ -49,8 +49,9 @@ spelled_run u sure k l w f =
     let run = (sure.matches.both_ways p path w).0 f in
     (run, sure.matches.along_is_run p path (start_in u w) (given_in u w) run.0 run.1)
 
-pub just : (u : JUnit) → Sure u → (s : Settlement) (before after : Held) → s.number < path_count u → Settled (condition u s.number) (opinion_in u s) s.outcome before after → Just u s
-just u sure s before after l x = record {
+pub just : (u : JUnit) → Sure u → (s : Settlement) (before after : Held) → Sound s.judge → s.number < path_count u → Settled (condition u s.number) (opinion_in u s) s.outcome before after → Just u s
+just u sure s before after sound l x = record {
+  lawful = sound;
   passed = passed_as _ (opinion_in u s) s.outcome _ x.answer;
   failed = failed_as _ (opinion_in u s) s.outcome _ x.answer;
   spelled = λ w r. spelled_run u sure s.number l w r.1;
@@ -60,4 +61,4 @@ just u sure s before after l x = record {
 pub found_sound : (u : JUnit) → Sure u → (s : Settlement) (k : ℕ) → k < path_count u → Just u s → s.number ≡ k → s.outcome ≡ Passed → (v : List ℤ) → Falsifies (condition u k) v → ⊥
 found_sound u sure s k l j same e =
     subst (λ (n : ℕ). (v : List ℤ) → Falsifies (condition u n) v → ⊥) same
-    (s.judge.sound (condition u s.number) (sure.keeps (nth (steps_of u) s.number) (sure.numbered.each_is_path s.number (omega arith))) (j.passed.0 e))
+    (j.lawful (condition u s.number) (sure.keeps (nth (steps_of u) s.number) (sure.numbered.each_is_path s.number (omega arith))) (j.passed.0 e))

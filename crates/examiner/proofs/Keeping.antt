@@ -30,10 +30,10 @@ EachJust u (s ∷ before) = Just u s × EachJust u before
 module _ (u : JUnit) (sure : Sure u) where
   just_now : (tag : ℕ) (h : History) (e : Event) → Happened u tag (e ∷ h) → EachJust u (accepted h) → EachJust u (accepted (e ∷ h))
   just_now tag h (took r) x all = all
-  just_now tag h (settled j l before (Ok o) after) x all =
-      let d = (going u tag h x.1).due l x.0.0 in
-      (just u sure (record { judge = j; number = l.number; outcome = o }) before after (omega (arith, d.number, d.left)) x.0.1, all)
-  just_now tag h (settled j l before (Err e) after) x all = all
+  just_now tag h (settled m l before (Ok o) after) x all =
+      let d = (going u tag h x.1).due l x.0.1 in
+      (just u sure (record { judge = m; number = l.number; outcome = o }) before after x.0.0 (omega (arith, d.number, d.left)) x.0.2, all)
+  just_now tag h (settled m l before (Err e) after) x all = all
   just_now tag h (handed_back l r) x all = all
   just_now tag h (told v) x all = all
 
@@ -116,8 +116,8 @@ none_left n count o next few = (
 
 keeps : (u : JUnit) → Sure u → (tag : ℕ) (h : History) (e : Event) → Happened u tag (e ∷ h) → Keeps u h e
 keeps u sure tag h (took r) x = let g = going u tag h x.1 in subst (λ (s : Result Slip SheetFault). s ≡ Err (refused refusal.Condition) ↔ (length (accepted h) ≡ path_count u)) (sym x.0) (none_left _ _ (out h) _ g.few)
-keeps u sure tag h (settled j l before (Ok o) after) x = (each_just u sure tag (settled j l before (Ok o) after ∷ h) x).0
-keeps u sure tag h (settled j l before (Err e) after) x = tt
+keeps u sure tag h (settled m l before (Ok o) after) x = (each_just u sure tag (settled m l before (Ok o) after ∷ h) x).0
+keeps u sure tag h (settled m l before (Err e) after) x = tt
 keeps u sure tag h (handed_back l r) x = tt
 keeps u sure tag h (told v) x = subst (Honest u (accepted h)) (sym x.0) (honest u tag (accepted h) (out h) (going u tag h x.1) sure (each_just u sure tag h x.1))
 

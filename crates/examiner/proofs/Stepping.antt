@@ -10,17 +10,18 @@ use Rattle.checking.specs.CheckedUnits.{said}
 use Rattle.sheets.specs.declared.fault.SheetFault.{SheetFault}
 use Rattle.sheets.specs.declared.outcome.Outcome.{Outcome}
 use Rattle.sheets.specs.Faults.{refused}
-use Rattle.sheets.specs.Settling.{Held, Settled, SettlesAt, condition}
+use Rattle.sheets.specs.Judges.{Sound}
+use Rattle.sheets.specs.Settling.{Held, Room, Settled, SettlesAt, condition}
 use Rattle.examiner.specs.declared.examination.Examination.{Examination}
 use Rattle.examiner.specs.declared.slip.Returned.{Returned}
 use Rattle.examiner.specs.declared.slip.Slip.{Slip}
 use Rattle.examiner.specs.declared.tally.Tally.{Tally}
 use Rattle.examiner.specs.declared.verdict.Verdict.{Verdict}
-use Rattle.examiner.specs.Histories.{Judging, Event, History, took, settled, handed_back, told, accepted, out}
+use Rattle.examiner.specs.Histories.{Meaning, Event, History, took, settled, handed_back, told, accepted, out}
 use Rattle.examiner.specs.Lives.{Leads, Goes}
 use Rattle.examiner.specs.Steps.{path_count, taken, verdict_on, Happened}
 use Rattle.examiner.specs.Tallies.{total, IsDue, counted, summed, Comes, Reached}
-use Rattle.examiner.proofs.Counting.{all_counted}
+use Rattle.examiner.proofs.Counting.{one_each, all_counted}
 use Rattle.examiner.proofs.Going.{Due, going}
 
 -- a checked unit has no more paths than it may have
@@ -108,18 +109,22 @@ module _ (u : JUnit) (tag : ℕ) (t : Tally) (l : Slip) where
   taken_back due h c = record { happened = (due_is_out u tag h t c l due, c.happened); remembered = ap (λ (s : Tally). record s { out = false }) c.remembered }
 
 -- ---- settlements
-module _ (u : JUnit) (tag : ℕ) (t : Tally) (l : Slip) (j : Judging) (before after : Held) where
-  pub strange : (e : Returned) → e ≡ record { slip = l; fault = refused refusal.Slip } → (IsDue tag t l → ⊥) → after ≡ before → Follows u tag (settled j l before (Err e) after) t t
+pub one_more : (t : Tally) (n : ℕ) (o : Outcome) → total (counted t n o) ≡ total t + 1
+one_more t n o = omega (arith, one_each o)
+
+module _ (u : JUnit) (tag : ℕ) (t : Tally) (l : Slip) (m : Meaning) (before after : Held) where
+  pub strange : (e : Returned) → e ≡ record { slip = l; fault = refused refusal.Slip } → (IsDue tag t l → ⊥) → after ≡ before → Follows u tag (settled m l before (Err e) after) t t
   strange e is not_due same h c = record { happened = ((inl (λ o. not_due (out_is_due u tag h t c l o), is), same), c.happened); remembered = c.remembered }
 
-  pub accepted_as : (o : Outcome) → IsDue tag t l → Settled (condition u l.number) (j.meaning (condition u l.number)) o before after → Follows u tag (settled j l before (Ok o) after) t (counted t l.number o)
-  accepted_as o due done h c = record { happened = ((due_is_out u tag h t c l due, done), c.happened); remembered = ap (λ (s : Tally). counted s l.number o) c.remembered }
+  pub accepted_as : (o : Outcome) (n : ℕ) (then : Tally) → n ≡ l.number → then ≡ counted t n o → Sound m → IsDue tag t l → SettlesAt u n m before (Ok o) after → Follows u tag (settled m l before (Ok o) after) t then
+  accepted_as o n then number is sound due done h c =
+      let here : Settled (condition u l.number) (m (condition u l.number)) o before after = subst (λ (k : ℕ). Settled (condition u k) (m (condition u k)) o before after) number done.1 in
+      let counted_here : then ≡ counted t l.number o = is ∙ ap (λ k. counted t k o) number in
+      record { happened = ((sound, due_is_out u tag h t c l due, here), c.happened); remembered = counted_here ∙ ap (λ (s : Tally). counted s l.number o) c.remembered }
 
   -- where a condition is left, a settlement is refused only for want of room
-  pub short : (f : SheetFault) (e : Returned) → e ≡ record { slip = l; fault = f } → IsDue tag t l → total t < path_count u → SettlesAt u l.number j.meaning before (Err f) after → Follows u tag (settled j l before (Err e) after) t t
-  short f e is due left r h c =
-      let o = due_is_out u tag h t c l due in
-      let n = due.next in
-      ⊎_elim (λ past. absurd (omega (arith, past.0)))
-      (λ no_room. record { happened = ((inr (o, no_room.1, is ∙ ap (λ (g : SheetFault). record { slip = l; fault = g }) no_room.2), r.1), c.happened); remembered = c.remembered })
+  pub short : (f : SheetFault) (e : Returned) (n : ℕ) → n ≡ l.number → e ≡ record { slip = l; fault = f } → IsDue tag t l → total t < path_count u → SettlesAt u n m before (Err f) after → Follows u tag (settled m l before (Err e) after) t t
+  short f e n number is due left r h c =
+      ⊎_elim (λ past. absurd (omega (arith, past.0, due.next)))
+      (λ no_room. record { happened = ((inr (due_is_out u tag h t c l due, subst (λ (k : ℕ). Room (condition u k) before → ⊥) number no_room.1, is ∙ ap (λ (g : SheetFault). record { slip = l; fault = g }) no_room.2), r.1), c.happened); remembered = c.remembered })
       r.0

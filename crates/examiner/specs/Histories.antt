@@ -3,22 +3,21 @@ use Rattle.std.specs.Prelude.{◌≡◌, ℕ, ◌+◌, List, [], ◌∷◌, Some
 use Rattle.sheets.specs.declared.fault.SheetFault.{SheetFault}
 use Rattle.sheets.specs.declared.outcome.Outcome.{Outcome}
 use Rattle.sheets.specs.declared.outcome.Outcome.TheVariants.{Passed, Failed, Open}
-use Rattle.sheets.specs.Judges.{Opinion, Sound}
+use Rattle.sheets.specs.Judges.{Opinion}
 use Rattle.sheets.specs.Settling.{Held}
 use Rattle.sheets.specs.Sheets.{Condition}
 use Rattle.examiner.specs.declared.slip.Returned.{Returned}
 use Rattle.examiner.specs.declared.slip.Slip.{Slip}
 use Rattle.examiner.specs.declared.verdict.Verdict.{Verdict}
 
--- a judge: what it thinks of each sheet, and the law that it keeps
-pub record Judging : Type 0 where
-  pub meaning : Condition → Opinion
-  pub sound : Sound meaning
+-- what a judge thinks of each sheet
+abbrev pub Meaning : Type 0
+Meaning = Condition → Opinion
 
 -- a call and what came of it; a settlement finds some things on its desk, and leaves others
 pub data Event : Type 0 where
   took : Result Slip SheetFault → Event
-  settled : Judging → Slip → Held → Result Outcome Returned → Held → Event
+  settled : Meaning → Slip → Held → Result Outcome Returned → Held → Event
   handed_back : Slip → Result (Unit {0}) Returned → Event
   told : Verdict → Event
 
@@ -27,7 +26,7 @@ History = List Event
 
 -- a settlement that was accepted
 pub record Settlement : Type 0 where
-  pub judge : Judging
+  pub judge : Meaning
   pub number : ℕ
   pub outcome : Outcome
 
@@ -35,8 +34,8 @@ pub record Settlement : Type 0 where
 abbrev pub accepted : History → List Settlement
 accepted [] = []
 accepted (took r ∷ h) = accepted h
-accepted (settled j l before (Ok o) after ∷ h) = record { judge = j; number = l.number; outcome = o } ∷ accepted h
-accepted (settled j l before (Err e) after ∷ h) = accepted h
+accepted (settled m l before (Ok o) after ∷ h) = record { judge = m; number = l.number; outcome = o } ∷ accepted h
+accepted (settled m l before (Err e) after ∷ h) = accepted h
 accepted (handed_back l r ∷ h) = accepted h
 accepted (told v ∷ h) = accepted h
 
@@ -45,8 +44,8 @@ abbrev pub out : History → Option Slip
 out [] = None
 out (took (Ok l) ∷ h) = Some l
 out (took (Err f) ∷ h) = out h
-out (settled j l before (Ok o) after ∷ h) = None
-out (settled j l before (Err e) after ∷ h) = out h
+out (settled m l before (Ok o) after ∷ h) = None
+out (settled m l before (Err e) after ∷ h) = out h
 out (handed_back l (Ok u) ∷ h) = None
 out (handed_back l (Err e) ∷ h) = out h
 out (told v ∷ h) = out h

@@ -7,7 +7,7 @@ use Rattle.checking.specs.Breaks.{steps_of}
 use Rattle.sheets.specs.declared.outcome.Outcome.{Outcome}
 use Rattle.sheets.specs.declared.outcome.Outcome.TheVariants.{Passed, Failed, Open}
 use Rattle.sheets.specs.Faults.{refused}
-use Rattle.sheets.specs.Judges.{Opinion, passed, failed}
+use Rattle.sheets.specs.Judges.{Opinion, Sound, passed, failed}
 use Rattle.sheets.specs.Matches.{start_in, given_in}
 use Rattle.sheets.specs.Runs.{Fitting, Fails, FailsAlong}
 use Rattle.sheets.specs.Settling.{condition}
@@ -19,7 +19,7 @@ use Rattle.examiner.specs.Steps.{path_count}
 
 -- what its judge thinks of a settlement's condition, which is its path's
 abbrev pub opinion_in : JUnit → Settlement → Opinion
-opinion_in u s = s.judge.meaning (condition u s.number)
+opinion_in u s = s.judge (condition u s.number)
 
 -- the judge proposed a valuation that falsifies the condition
 abbrev pub Refuted : JUnit → Settlement → List ℤ → Type 0
@@ -31,6 +31,7 @@ SpellsFailure u p w = Fitting u (start_in u w) × FailsAlong u p (start_in u w) 
 
 -- an accepted settlement is as its judge found its path's condition
 pub record Just (u : JUnit) (s : Settlement) : Type 0 where
+  pub lawful : Sound s.judge
   pub passed : s.outcome ≡ Passed ↔ (opinion_in u s ≡ passed)
   pub failed : s.outcome ≡ Failed ↔ ((w : List ℤ) × Refuted u s w)
   pub spelled : (w : List ℤ) → Refuted u s w → SpellsFailure u (nth (steps_of u) s.number) w × Fails u
@@ -60,8 +61,8 @@ pub record Honest (u : JUnit) (ss : List Settlement) (v : Verdict) : Type 0 wher
 -- what is promised of each call, by what came before it: a take finds none left exactly when as many are accepted as there are paths
 abbrev pub Keeps : JUnit → History → Event → Type 0
 Keeps u h (took r) = r ≡ Err (refused NoCondition) ↔ (length (accepted h) ≡ path_count u)
-Keeps u h (settled j l before (Ok o) after) = Just u (record { judge = j; number = l.number; outcome = o })
-Keeps u h (settled j l before (Err e) after) = Unit {0}
+Keeps u h (settled m l before (Ok o) after) = Just u (record { judge = m; number = l.number; outcome = o })
+Keeps u h (settled m l before (Err e) after) = Unit {0}
 Keeps u h (handed_back l r) = Unit {0}
 Keeps u h (told v) = Honest u (accepted h) v
 

@@ -7,6 +7,7 @@ use Rattle.checking.specs.Breaks.{steps_of}
 use Rattle.sheets.specs.declared.fault.SheetFault.{SheetFault}
 use Rattle.sheets.specs.declared.outcome.Outcome.TheVariants.{Passed, Failed, Open}
 use Rattle.sheets.specs.Faults.{refused}
+use Rattle.sheets.specs.Judges.{Sound}
 use Rattle.sheets.specs.Settling.{Held, Room, Settled, condition}
 use Rattle.examiner.specs.declared.slip.Slip.{Slip}
 use Rattle.examiner.specs.declared.verdict.Judgement.{Judgement}
@@ -41,10 +42,10 @@ verdict_on u ss = record {
 
 abbrev pub Step : JUnit → ℕ → History → Event → Type 0
 Step u tag h (took r) = r ≡ taken (nat_le (path_count u) (length (accepted h))) (out h) (record { tag = tag; number = length (accepted h) })
--- the slip that is out is settled by what its judge thinks of its path's condition
-Step u tag h (settled j l before (Ok o) after) = (out h ≡ Some l) × Settled (condition u l.number) (j.meaning (condition u l.number)) o before after
+-- the slip that is out is settled by what a lawful judge thinks of its path's condition
+Step u tag h (settled m l before (Ok o) after) = Sound m × (out h ≡ Some l) × Settled (condition u l.number) (m (condition u l.number)) o before after
 -- or it comes back: it is not the one out, or else a buffer is short
-Step u tag h (settled j l before (Err e) after) =
+Step u tag h (settled m l before (Err e) after) =
     (((out h ≢ Some l) × (e ≡ record { slip = l; fault = refused refusal.Slip })) ⊎ ((out h ≡ Some l) × (Room (condition u l.number) before → ⊥) × (e ≡ record { slip = l; fault = refused refusal.Buffer }))) × (after ≡ before)
 Step u tag h (handed_back l (Ok _)) = out h ≡ Some l
 Step u tag h (handed_back l (Err e)) = (out h ≢ Some l) × (e ≡ record { slip = l; fault = refused refusal.Slip })
