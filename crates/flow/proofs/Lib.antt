@@ -12,3 +12,4 @@ pub mod Marking
 pub mod Telling
 pub mod Housing
 pub mod Exampling
+pub mod Shortness

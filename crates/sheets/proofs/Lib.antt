@@ -12,10 +12,11 @@ pub mod Sensing
 pub mod Deepening
 pub mod Placing
 pub mod Fitting
-pub mod Setting
+pub mod Equating
 pub mod Keeping
 pub mod Laying
 pub mod Exampling
 pub mod Setters
 pub mod Rooms
-pub mod Keeping
+pub mod Ruling
+pub mod Telling

@@ -1,9 +1,9 @@
 -- One condition settled: its sheet is written, a judge is asked, and what the judge proposes is replayed.
 use Rattle.std.specs.Prelude.{◌≡◌, ℕ, ◌+◌, ◌<◌, ◌≤◌, ◌⊎◌, List, [], ◌∷◌, ◌++◌, length, take, drop, replicate, ℤ, pos, Ok, Err, Result}
-use Rattle.std.specs.List.{flat_map}
 use Rattle.terms.specs.declared.row.Row.{Row}
 use Rattle.flow.specs.Numbers.{paths, nth}
 use Rattle.jcode.specs.declared.refusal.Refusal.TheVariants.{Condition as NoCondition, Buffer}
+use Rattle.jcode.specs.ReadUnits.{over}
 use Rattle.jcode.specs.Units.{JUnit}
 use Rattle.reckoning.specs.declared.mark.Mark.{Mark}
 use Rattle.checking.specs.Breaks.{steps_of}
@@ -15,21 +15,13 @@ use Rattle.sheets.specs.declared.outcome.Outcome.TheVariants.{Passed, Failed, Op
 use Rattle.sheets.specs.declared.part.Part.{Part}
 use Rattle.sheets.specs.Faults.{refused}
 use Rattle.sheets.specs.Judges.{Opinion, passed, failed, unsure}
-use Rattle.sheets.specs.PathSheets.{sheet_of}
+use Rattle.sheets.specs.PathSheets.{sheet_of, rows_of, laid_from}
 use Rattle.sheets.specs.Sheets.{CellTerm, Condition}
 use Rattle.sheets.specs.Valuations.{Falsifies}
 
 -- the condition of the path with the number k
 abbrev pub condition : JUnit → ℕ → Condition
 condition u k = sheet_of u (nth (steps_of u) k)
-
--- a condition as it stands in tables: the rows of its parts one after another, and where each part stands
-abbrev pub rows_of : List CellTerm → List (Row ℕ)
-rows_of es = flat_map (λ e. e) es
-
-abbrev pub parts_from : ℕ → List CellTerm → List Part
-parts_from used [] = []
-parts_from used (e ∷ es) = record { first = used; rows = length e } ∷ parts_from (used + length e) es
 
 -- what the buffers of a desk hold
 pub record Held : Type 0 where
@@ -54,10 +46,6 @@ pub record Room (c : Condition) (h : Held) : Type 0 where
   pub for_valuation : length c.cells ≤ length h.valuation
   pub for_working : length c.cells + length (rows_of c.parts) ≤ length h.working
 
--- a buffer that begins with these, and then holds what it held
-abbrev pub over : {X : Type 0} → List X → List X → List X
-over xs old = xs ++ drop (length xs) old
-
 -- by what a judge thinks of a condition it is passed, failed or open, and the valuation begins with what falsifies it, or else with 0 for each cell
 abbrev pub Settles : Condition → Opinion → Outcome → List ℤ → Type 0
 Settles c passed o v = (o ≡ Passed) × (v ≡ replicate (length c.cells) (pos 0))
@@ -68,7 +56,7 @@ Settles c unsure o v = (o ≡ Open) × (v ≡ replicate (length c.cells) (pos 0)
 pub record Settled (c : Condition) (opinion : Opinion) (o : Outcome) (before after : Held) : Type 0 where
   pub room : Room c before
   pub rows : after.rows ≡ over (rows_of c.parts) before.rows
-  pub parts : after.parts ≡ over (parts_from 0 c.parts) before.parts
+  pub parts : after.parts ≡ over (laid_from 0 c.parts) before.parts
   pub cells : after.cells ≡ over c.cells before.cells
   pub answer : Settles c opinion o (take (length c.cells) after.valuation)
   pub rest : drop (length c.cells) after.valuation ≡ drop (length c.cells) before.valuation

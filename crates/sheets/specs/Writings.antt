@@ -7,8 +7,7 @@ use Rattle.sheets.specs.declared.page.Page.{Page}
 use Rattle.sheets.specs.declared.part.Part.{Part}
 use Rattle.sheets.specs.declared.writer.Writer.{Writer}
 use Rattle.sheets.specs.Currents.{current_in}
-use Rattle.sheets.specs.PathSheets.{Progress, equated}
-use Rattle.sheets.specs.Settling.{rows_of, parts_from}
+use Rattle.sheets.specs.PathSheets.{Progress, equated, rows_of, laid_from}
 use Rattle.sheets.specs.Sheets.{CellTerm}
 
 -- these records are written on a page, behind what it counts; what finds no room is counted alone
@@ -20,7 +19,7 @@ pub record Extends {X : Type 0} (before : Page X) (xs : List X) (after : Page X)
 -- these parts and these cells are written, and the current cells become these
 pub record Writes (before : Writer) (es : List CellTerm) (cs : List Cell) (now : List ℕ) (after : Writer) : Type 0 where
   pub rows : Extends before.rows (rows_of es) after.rows
-  pub parts : Extends before.parts (parts_from before.rows.count es) after.parts
+  pub parts : Extends before.parts (laid_from before.rows.count es) after.parts
   pub cells : Extends before.cells cs after.cells
   pub current : current_in after.current ≡ now
   pub size : after.current.count ≡ before.current.count
@@ -42,3 +41,9 @@ pub record CountsAll (w : Writer) (es : List CellTerm) (cs : List Cell) : Type 0
 abbrev pub headed : Option ℕ → CellTerm → CellTerm
 headed None e = e
 headed (Some c) e = equated c e
+
+-- these parts and these cells are written, whatever the current cells become
+pub record Fills (before : Writer) (es : List CellTerm) (cs : List Cell) (after : Writer) : Type 0 where
+  pub rows : Extends before.rows (rows_of es) after.rows
+  pub parts : Extends before.parts (laid_from before.rows.count es) after.parts
+  pub cells : Extends before.cells cs after.cells

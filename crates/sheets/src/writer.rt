@@ -5,13 +5,13 @@ ghost use Rattle.std.specs.List.{list_all};
 ghost use Rattle.terms.specs.Terms.{renamed};
 ghost use Rattle.jcode.specs.Units.{term_in, sentence_in};
 ghost use Rattle.jcode.specs.declared.variable.Domain.TheVariants.{Integer, Boolean};
-ghost use Rattle.jcode.specs.declared.statement.Statement.TheVariants.{Assign};
+ghost use Rattle.jcode.specs.declared.statement.Statement.TheVariants.{Assign, Hang};
 ghost use Rattle.checking.specs.CheckedUnits.{said};
 ghost use Rattle.checking.specs.Types.{domains};
 ghost use Rattle.sheets.specs.Currents.{current_in};
 ghost use Rattle.sheets.specs.Matches.{terms_kept};
 ghost use Rattle.sheets.specs.PathSheets.{cell_of as cell_for, cells_from, cells_of, moved, over, parts_of};
-ghost use Rattle.sheets.specs.Runs.{listed, read, stored, types_at};
+ghost use Rattle.sheets.specs.Runs.{listed, read, sentence, stored, types_at};
 
 use super::cell::{Cell, CellRow};
 use super::current::Current;
@@ -74,6 +74,14 @@ fn domain_of(unit: &CheckedUnit<'_>, variable: usize) -> Domain
     ensures { result ≡ slice_index_or (domains (said unit.now)) variable Integer }
 {
     unit.domain(variable).unwrap_or(Domain::Integer)
+}
+
+// The statement at a place; past the last one there is nothing to do.
+fn statement_at(unit: &CheckedUnit<'_>, place: usize) -> Statement
+    ensures { result ≡ slice_index_or unit.now.tables.statements.now place Hang }
+{
+    let statement = unit.statements().get(place).copied();
+    statement.unwrap_or(Statement::Hang)
 }
 
 impl Page<'_, CellRow> {
@@ -174,5 +182,14 @@ impl Writer<'_> {
             } => self.assign(unit, variable, shadow, value),
             _ => {}
         }
+    }
+
+    // What the statement at a place adds.
+    fn visit(&mut self, unit: &CheckedUnit<'_>, place: usize)
+        requires counts { CountsAll self.old (parts_of (progress self.old) (sentence (said unit.now) place)) (cells_of (said unit.now) (progress self.old) (sentence (said unit.now) place)) }
+        requires size { self.old.current.count ≡ 2 * length (said unit.now).variables }
+        ensures { Writes self.old (parts_of (progress self.old) (sentence (said unit.now) place)) (cells_of (said unit.now) (progress self.old) (sentence (said unit.now) place)) (moved (progress self.old) (sentence (said unit.now) place)) self.new }
+    {
+        self.statement(unit, statement_at(unit, place));
     }
 }

@@ -1,5 +1,5 @@
 use Rattle.std.proofs.Common.{sym, ◌∙◌, refl}
-use Rattle.sheets.proofs.Keeping.{is_sheet, no_sheet}
+use Rattle.sheets.proofs.Ruling.{is_sheet, no_sheet}
 use Rattle.sheets.proofs.sheet.Sheet.fill.Goals as goal
 
 pub returns-then-not-keep_rules : goal.returns-then-not-keep_rules
