@@ -4,3 +4,4 @@ pub mod Judging
 pub mod Keeping
 pub mod Stepping
 pub mod Promising
+pub mod Working

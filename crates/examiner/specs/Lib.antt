@@ -4,3 +4,4 @@ pub mod Promises
 pub mod Tallies
 pub mod Lives
 pub mod Reports
+pub mod WorkedUnit

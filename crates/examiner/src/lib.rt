@@ -6,3 +6,4 @@ pub mod report;
 pub mod slip;
 mod tally;
 pub mod verdict;
+pub mod worked;
