@@ -96,6 +96,7 @@ impl<'a> Examination<'a> {
             Judgement::Cleared
         }
     }
+
     // What all calls so far come to.
     pub fn verdict(&self) -> Verdict
         ensures next { Goes (told result) self.now self.now }

@@ -1,0 +1,6 @@
+// Trials of examinations, in a crate of their own since a crate with tests is proved twice.
+#![tactic(auto)]
+
+mod guess;
+#[cfg(test)]
+mod examining;
