@@ -1,12 +1,11 @@
 -- What holds after every history: how many settlements were accepted, their numbers, and the slip that is out.
-use Rattle.std.proofs.Common.{◌≡◌, ℕ, ◌+◌, ◌<◌, ◌≤◌, Bool, true, false, List, [], ◌∷◌, length, leb, Some, None, Ok, Err, Option, Result, sym, refl, ap, ◌∙◌, subst, arith}
+use Rattle.std.proofs.Common.{◌≡◌, ℕ, ◌<◌, ◌≤◌, Bool, true, false, List, [], ◌∷◌, length, leb, Some, None, Ok, Err, Option, refl, ap, subst, arith}
 use Rattle.std.proofs.lemmas.Bool.{leb-false}
 use Rattle.jcode.specs.Units.{JUnit}
-use Rattle.sheets.specs.declared.fault.SheetFault.{SheetFault}
 use Rattle.examiner.specs.declared.slip.Slip.{Slip}
-use Rattle.examiner.specs.Histories.{Event, History, Settlement, took, settled, handed_back, told, accepted, out}
+use Rattle.examiner.specs.Histories.{History, Settlement, took, settled, handed_back, told, accepted, out}
 use Rattle.examiner.specs.Promises.{InOrder}
-use Rattle.examiner.specs.Steps.{path_count, taken, Step, Happened}
+use Rattle.examiner.specs.Steps.{path_count, taken, Happened}
 
 -- the slip that is out when so many settlements have been accepted
 pub record Due (u : JUnit) (tag count : ℕ) (l : Slip) : Type 0 where

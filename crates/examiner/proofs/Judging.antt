@@ -1,21 +1,19 @@
 -- Accepted settlements are as their judges found their conditions, and a judge that is lawful passes nothing that some run fails.
-use Rattle.std.proofs.Common.{◌≡◌, ◌⊎◌, ℕ, ◌<◌, List, ◌++◌, length, ℤ, pos, replicate, sym, refl, ap, ◌∙◌, subst, inl, inr, ⊎_elim, arith}
+use Rattle.std.proofs.Common.{◌≡◌, ℕ, ◌<◌, List, ℤ, refl, subst, inl, inr, arith}
 use Rattle.std.specs.Prelude.{◌↔◌}
-use Rattle.flow.specs.Numbers.{Numbered, paths, nth}
-use Rattle.flow.specs.Paths.{Path}
+use Rattle.flow.specs.Numbers.{Numbered, nth}
 use Rattle.jcode.specs.Units.{JUnit}
 use Rattle.checking.specs.Breaks.{steps_of}
 use Rattle.sheets.specs.declared.outcome.Outcome.{Outcome}
-use Rattle.sheets.specs.declared.outcome.Outcome.TheVariants.{Passed, Failed, Open}
+use Rattle.sheets.specs.declared.outcome.Outcome.TheVariants.{Passed, Failed}
 use Rattle.sheets.specs.Judges.{Opinion, Sound, passed, failed, unsure}
 use Rattle.sheets.specs.Matches.{Matches, SheetsKeep, start_in, given_in}
-use Rattle.sheets.specs.PathSheets.{sheet_of}
 use Rattle.sheets.specs.Runs.{Fails}
 use Rattle.sheets.specs.Settling.{Held, Settles, Settled, condition}
 use Rattle.sheets.specs.Sheets.{Condition}
 use Rattle.sheets.specs.Valuations.{Falsifies}
 use Rattle.examiner.specs.Histories.{Settlement}
-use Rattle.examiner.specs.Promises.{opinion_in, Refuted, SpellsFailure, Just, HasSettled}
+use Rattle.examiner.specs.Promises.{opinion_in, SpellsFailure, Just}
 use Rattle.examiner.specs.Steps.{path_count}
 
 -- what a check sees to, of a unit's paths and their sheets

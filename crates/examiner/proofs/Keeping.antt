@@ -1,11 +1,9 @@
 -- Every history keeps what an examination promises.
-use Rattle.std.proofs.Common.{◌≡◌, ◌⊎◌, ℕ, ◌+◌, ◌<◌, ◌≤◌, Bool, true, false, List, [], ◌∷◌, length, leb, ltb, ℤ, Some, None, Ok, Err, Option, Result, sym, refl, ap, ◌∙◌, subst, inl, inr, ⊎_elim, arith}
+use Rattle.std.proofs.Common.{◌≡◌, ℕ, ◌<◌, ◌≤◌, Bool, true, false, List, [], ◌∷◌, length, leb, ltb, ℤ, Some, None, Ok, Err, Option, Result, sym, refl, ap, subst, inl, inr, ⊎_elim, arith}
 use Rattle.std.specs.Prelude.{◌↔◌}
 use Rattle.std.proofs.lemmas.Bool.{cases_lt, leb-true, le-leb, ltb-false, le-ltb}
-use Rattle.flow.specs.Numbers.{Numbered, paths, nth}
 use Rattle.jcode.specs.declared.refusal.Refusal.TheVariants as refusal
 use Rattle.jcode.specs.Units.{JUnit}
-use Rattle.checking.specs.Breaks.{steps_of}
 use Rattle.sheets.specs.declared.fault.SheetFault.{SheetFault}
 use Rattle.sheets.specs.declared.outcome.Outcome.TheVariants.{Passed, Failed, Open}
 use Rattle.sheets.specs.Faults.{refused}
@@ -15,12 +13,11 @@ use Rattle.sheets.specs.Settling.{condition}
 use Rattle.sheets.specs.Valuations.{Falsifies}
 use Rattle.examiner.specs.declared.slip.Slip.{Slip}
 use Rattle.examiner.specs.declared.verdict.Judgement.TheVariants as judgement
-use Rattle.examiner.specs.declared.verdict.Verdict.{Verdict}
 use Rattle.examiner.specs.Histories.{Event, History, Settlement, took, settled, handed_back, told, accepted, out, how_many, first_failed}
 use Rattle.examiner.specs.Promises.{Just, HasSettled, Honest, Keeps, Kept}
 use Rattle.examiner.specs.Steps.{path_count, taken, judged, verdict_on, Happened}
-use Rattle.examiner.proofs.Counting.{AllPassed, LowestFailed, all_counted, only_passed, each_passed, has_low, first_is, is_first}
-use Rattle.examiner.proofs.Going.{Going, Due, going}
+use Rattle.examiner.proofs.Counting.{AllPassed, all_counted, only_passed, each_passed, has_low, first_is, is_first}
+use Rattle.examiner.proofs.Going.{Going, going}
 use Rattle.examiner.proofs.Judging.{Sure, just, found_sound}
 
 abbrev EachJust : JUnit → List Settlement → Type 0

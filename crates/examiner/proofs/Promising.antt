@@ -1,5 +1,5 @@
 -- The whole promise stands of every examination.
-use Rattle.std.proofs.Common.{◌≡◌, ℕ, Some, None, List, [], ◌∷◌, length, ltb, sym, refl, ap, ◌∙◌, subst}
+use Rattle.std.proofs.Common.{◌≡◌, ℕ, ◌∷◌, ltb, sym, refl, ap, ◌∙◌, subst}
 use Rattle.std.proofs.Math.Logic.{∥∥₁_map, ∥∥₁_elim}
 use Rattle.flow.proofs.Numbering.{numbered}
 use Rattle.flow.specs.Steps.{Acyclic}
@@ -9,19 +9,17 @@ use Rattle.checking.specs.Breaks.{steps_of}
 use Rattle.checking.specs.CheckedUnits.{said}
 use Rattle.checking.specs.Held.{held}
 use Rattle.sheets.specs.declared.outcome.Outcome.TheVariants.{Open}
-use Rattle.sheets.specs.Runs.{Fails}
 use Rattle.sheets.proofs.Keeping.{keeps_rules}
 use Rattle.sheets.proofs.Running.{matches}
 use Rattle.sheets.proofs.Sensing.{sensible}
 use Rattle.examiner.specs.declared.examination.Examination.{Examination}
 use Rattle.examiner.specs.declared.tally.Tally.{Tally}
-use Rattle.examiner.specs.declared.verdict.Judgement.TheVariants.{Cleared}
 use Rattle.examiner.specs.declared.verdict.Verdict.{Verdict}
 use Rattle.examiner.specs.Histories.{History, told, accepted, how_many, first_failed}
 use Rattle.examiner.specs.Lives.{Leads, Goes, Promised}
 use Rattle.examiner.specs.Promises.{Kept}
 use Rattle.examiner.specs.Steps.{path_count, judged, verdict_on}
-use Rattle.examiner.specs.Tallies.{total, summed, Comes}
+use Rattle.examiner.specs.Tallies.{total, summed}
 use Rattle.examiner.proofs.Counting.{all_counted}
 use Rattle.examiner.proofs.Judging.{Sure}
 use Rattle.examiner.proofs.Keeping.{kept}

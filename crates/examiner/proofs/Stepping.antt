@@ -1,5 +1,5 @@
 -- One call more: whatever history comes to a tally, the call comes next, and leads to the tally after it.
-use Rattle.std.proofs.Common.{◌≡◌, ◌≢◌, ◌⊎◌, ℕ, ◌+◌, ◌<◌, ◌≤◌, Bool, true, false, List, [], ◌∷◌, length, leb, Some, None, Ok, Err, Option, Result, sym, refl, ap, ◌∙◌, subst, inl, inr, ⊎_elim, arith}
+use Rattle.std.proofs.Common.{◌≡◌, ℕ, ◌+◌, ◌<◌, ◌≤◌, true, false, ◌∷◌, length, leb, Some, None, Ok, Err, Option, sym, refl, ap, ◌∙◌, subst, inl, inr, ⊎_elim, arith}
 use Rattle.std.proofs.Math.Logic.{∥∥₁_map}
 use Rattle.std.proofs.lemmas.Bool.{cases_lt, le-leb, lt-leb}
 use Rattle.std.specs.Prelude.{is_some}
@@ -16,13 +16,12 @@ use Rattle.examiner.specs.declared.examination.Examination.{Examination}
 use Rattle.examiner.specs.declared.slip.Returned.{Returned}
 use Rattle.examiner.specs.declared.slip.Slip.{Slip}
 use Rattle.examiner.specs.declared.tally.Tally.{Tally}
-use Rattle.examiner.specs.declared.verdict.Verdict.{Verdict}
-use Rattle.examiner.specs.Histories.{Meaning, Event, History, took, settled, handed_back, told, accepted, out}
-use Rattle.examiner.specs.Lives.{Leads, Goes}
-use Rattle.examiner.specs.Steps.{path_count, taken, verdict_on, Happened}
-use Rattle.examiner.specs.Tallies.{total, IsDue, counted, summed, Comes, Reached}
+use Rattle.examiner.specs.Histories.{Meaning, Event, History, took, settled, handed_back, accepted, out}
+use Rattle.examiner.specs.Lives.{Goes}
+use Rattle.examiner.specs.Steps.{path_count, taken}
+use Rattle.examiner.specs.Tallies.{total, IsDue, counted, Comes, Reached}
 use Rattle.examiner.proofs.Counting.{one_each, all_counted}
-use Rattle.examiner.proofs.Going.{Due, going}
+use Rattle.examiner.proofs.Going.{going}
 
 -- a checked unit has no more paths than it may have
 pub few_paths : (u : CheckedUnit) → path_count (said u) ≤ 65536

@@ -1,5 +1,5 @@
 -- The worked unit.
-use Rattle.std.proofs.Common.{◌≡◌, List, [], ◌∷◌, pos, refl, arith}
+use Rattle.std.proofs.Common.{[], ◌∷◌, pos, refl, arith}
 use Rattle.std.proofs.lemmas.Fmt.{decimal_digit}
 use Rattle.sheets.proofs.Exampling.{examples}
 use Rattle.examiner.specs.WorkedUnit.{WorkedUnit}

@@ -1,5 +1,5 @@
 -- An examination, and the histories that led to where it is.
-use Rattle.std.specs.Prelude.{◌≡◌, ℕ, [], ◌∷◌}
+use Rattle.std.specs.Prelude.{◌≡◌, ℕ, ◌∷◌}
 use Rattle.jcode.specs.Units.{JUnit}
 use Rattle.checking.specs.CheckedUnits.{said}
 use Rattle.sheets.specs.Runs.{Fails}

@@ -1,5 +1,5 @@
 -- What an examination promises, whatever its history.
-use Rattle.std.specs.Prelude.{◌≡◌, ◌↔◌, ◌⊎◌, ℕ, ◌+◌, ◌<◌, List, [], ◌∷◌, ◌++◌, length, ℤ, Ok, Err}
+use Rattle.std.specs.Prelude.{◌≡◌, ◌↔◌, ◌⊎◌, ℕ, ◌+◌, ◌<◌, List, [], ◌∷◌, length, ℤ, Ok, Err}
 use Rattle.flow.specs.Numbers.{nth}
 use Rattle.jcode.specs.declared.refusal.Refusal.TheVariants.{Condition as NoCondition}
 use Rattle.jcode.specs.Units.{JUnit}

@@ -8,7 +8,7 @@ use Rattle.sheets.specs.declared.fault.SheetFault.{SheetFault}
 use Rattle.sheets.specs.declared.outcome.Outcome.TheVariants.{Passed, Failed, Open}
 use Rattle.sheets.specs.Faults.{refused}
 use Rattle.sheets.specs.Judges.{Sound}
-use Rattle.sheets.specs.Settling.{Held, Room, Settled, condition}
+use Rattle.sheets.specs.Settling.{Room, Settled, condition}
 use Rattle.examiner.specs.declared.slip.Slip.{Slip}
 use Rattle.examiner.specs.declared.verdict.Judgement.{Judgement}
 use Rattle.examiner.specs.declared.verdict.Judgement.TheVariants as judgement

@@ -1,5 +1,5 @@
 -- The worked unit: what each definition on the way to a verdict makes of it.
-use Rattle.std.specs.Prelude.{◌≡◌, ℕ, List, [], ◌∷◌, codes, ℤ, pos, negsuc, length}
+use Rattle.std.specs.Prelude.{◌≡◌, [], ◌∷◌, codes, pos, negsuc}
 use Rattle.terms.specs.declared.operator.Operator.TheVariants.{Mul}
 use Rattle.terms.specs.Numbers.{quotient, remainder}
 use Rattle.jcode.specs.Sentences.{Hang, Break}

@@ -1,6 +1,4 @@
 // Trials of examinations, in a crate of their own since a crate with tests is proved twice.
 #![tactic(auto)]
 
-mod guess;
-#[cfg(test)]
-mod examining;
+pub mod guess;

@@ -1,4 +1,4 @@
-use Rattle.std.proofs.Common.{◌≡◌, false, Ok, Err, sym, refl, ap, ◌∙◌, arith, rules}
+use Rattle.std.proofs.Common.{false, Ok, refl, rules}
 use Rattle.checking.specs.CheckedUnits.{said}
 use Rattle.examiner.specs.Histories.{handed_back}
 use Rattle.examiner.proofs.Stepping.{reached_by, goes_by, not_taken_back, taken_back}

@@ -1,4 +1,4 @@
-use Rattle.std.proofs.Common.{arith, rules}
+use Rattle.std.proofs.Common.{rules}
 use Rattle.examiner.proofs.Stepping.{few_paths}
 use Rattle.examiner.proofs.examination.Examination.settled.Goals as goal
 
