@@ -2,3 +2,7 @@
 #![tactic(auto)]
 
 pub mod guess;
+#[cfg(test)]
+mod slips;
+#[cfg(test)]
+mod units;
