@@ -3,19 +3,17 @@ use Rattle.std.proofs.Common.{◌≡◌, ℕ, ◌+◌, ◌<◌, List, [], ◌∷
 use Rattle.std.proofs.lemmas.List.{map_more}
 use Rattle.jcode.specs.Tables.{put}
 use Rattle.jcode.proofs.Stores.{put_append}
-use Rattle.sheets.specs.declared.page.Page.{Page}
-use Rattle.sheets.specs.Writings.{Extends}
+use Rattle.sheets.specs.Writings.{Page, Extends}
 
 module _ {X : Type 0} (a b c : Page X) (xs ys : List X) where
   pub extended : Extends a xs b → Extends b ys c → Extends a (xs ++ ys) c
   extended p q = record {
-    records = q.records ∙ (λ i. put (p.records i) (p.count i) ys) ∙ sym (put_append a.records.now a.count xs ys);
+    records = q.records ∙ (λ i. put (p.records i) (p.count i) ys) ∙ sym (put_append a.records a.count xs ys);
     count = let e = length-append xs ys in omega (arith, p.count, q.count, e);
-    lent = q.lent ∙ p.lent;
   }
 
 pub not_extended : {X : Type 0} (a : Page X) → Extends a [] a
-not_extended a = record { records = λ i. a.records.now; count = omega arith; lent = λ i. a.records.ghost_name }
+not_extended a = record { records = λ i. a.records; count = omega arith }
 
 -- what is made of each element of a list
 pub one_more : {A X : Type 0} (a b c : Page X) (f : A → X) (xs : List A) (i : ℕ) (d : A) (x : X) → i < length xs → x ≡ f (get_or xs i d) → Extends a (map f (take i xs)) b → Extends b (x ∷ []) c → Extends a (map f (take (i + 1) xs)) c

@@ -6,7 +6,7 @@ pub mod Matching
 pub mod Running
 pub mod Numbered
 pub mod Extending
-pub mod Writing
+pub mod Joining
 pub mod Adding
 pub mod Sensing
 pub mod Deepening
@@ -19,4 +19,8 @@ pub mod Exampling
 pub mod Setters
 pub mod Rooms
 pub mod Ruling
-pub mod Telling
+pub mod Saying
+pub mod Following
+pub mod Starting
+pub mod Bounding
+pub mod Drafting

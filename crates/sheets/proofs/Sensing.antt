@@ -41,7 +41,7 @@ module _ {S : Type 0} (f : Span → S) (bytes : List ℕ) (count : ℕ) where
   each_kept (s ∷ ss) h (suc i) = each_kept ss (and_parts (keeps bytes count s) _ h).1 i
 
 module _ (bytes : List ℕ) (name : Span) (t : Tables) (sound : Unbroken bytes name t) where
-  reads : Readable bytes name t
+  pub reads : Readable bytes name t
   reads = ⊎_elim (readable_right bytes name t)
       (λ no. absurd (sound refusal.Tables 0 (inl (refl, refl, λ r. true≢false (sym (readable_whole bytes name t r) ∙ no)))))
       (cases_Bool (readable bytes name t))

@@ -9,5 +9,6 @@ pub mod Currents
 pub mod Matches
 pub mod Settling
 pub mod Writings
+pub mod Drafts
 pub mod Places
 pub mod PathExamples

@@ -19,16 +19,24 @@ pub(super) struct Current {
     ghost few: { count ≤ 64 },
 }
 
+// The numbers from 0 on, which are places.
+pub(super) fn places() -> [usize; MOST_CELLS]
+    ensures { result ≡ range_with_len 0 64 }
+{
+    array::from_fn(|i| i)
+}
+
 impl Current {
     ghost use Rattle.sheets.specs.Currents.{current_in};
 
     // At the start each variable has its own two cells, in order.
     pub(super) fn start(variables: usize) -> Current
         requires { variables ≤ 32 }
-        ensures { current_in result ≡ range_with_len 0 (2 * variables) }
+        ensures cells { current_in result ≡ range_with_len 0 (2 * variables) }
+        ensures count { result.count ≡ 2 * variables }
     {
         Current {
-            cells: array::from_fn(|i| i),
+            cells: places(),
             count: 2 * variables,
         }
     }

@@ -6,33 +6,37 @@ ghost use Rattle.terms.specs.Terms.{renamed};
 ghost use Rattle.jcode.specs.Units.{term_in, sentence_in};
 ghost use Rattle.jcode.specs.declared.variable.Domain.TheVariants.{Integer, Boolean};
 ghost use Rattle.jcode.specs.declared.statement.Statement.TheVariants.{Assign, Hang};
+ghost use Rattle.flow.specs.Turns.{told, Tells};
+ghost use Rattle.checking.specs.Breaks.{steps_of};
 ghost use Rattle.checking.specs.CheckedUnits.{said};
 ghost use Rattle.checking.specs.Types.{domains};
 ghost use Rattle.sheets.specs.Currents.{current_in};
 ghost use Rattle.sheets.specs.Matches.{terms_kept};
-ghost use Rattle.sheets.specs.PathSheets.{cell_of as cell_for, cells_from, cells_of, moved, over, parts_of};
+ghost use Rattle.sheets.specs.PathSheets.{cell_of as cell_for, cells_along, cells_from, cells_of, moved, over, parts_along, parts_of};
 ghost use Rattle.sheets.specs.Runs.{listed, read, sentence, stored, types_at};
 
 use super::cell::{Cell, CellRow};
-use super::current::Current;
-use super::page::Page;
+use super::current::{Current, places};
 use super::part::Part;
+use super::writing::Lengths;
 use checking::term::term_rows;
 use checking::types::{domain_bounds, domain_kind};
 use checking::unit::CheckedUnit;
+use flow::turn::Turn;
 use jcode::mention::{Mention, Stage, UnitRow};
 use jcode::statement::{Statement, Term};
 use jcode::variable::Domain;
 use terms::operator::Operator;
 use terms::row::Row;
 
-// The pages of a sheet, and the cells that stand for variables so far.
+// The buffers of a sheet, how much of each was written, and the cells that stand for variables so far. What finds no room is counted alone, so that a writer with empty buffers tells how long they have to be.
 #[derive(Drop)]
 pub(super) struct Writer<'a> {
-    pub(super) rows: Page<'a, CellRow>,
-    pub(super) parts: Page<'a, Part>,
-    pub(super) cells: Page<'a, Cell>,
-    pub(super) current: Current,
+    rows: &'a mut [CellRow],
+    parts: &'a mut [Part],
+    cells: &'a mut [Cell],
+    pub(super) written: Lengths,
+    current: Current,
 }
 
 // The cell that a mention becomes.
@@ -69,6 +73,14 @@ fn cell_of(domain: Domain, set_by: Option<usize>) -> Cell
     }
 }
 
+// How many variables a unit has.
+fn count(unit: &CheckedUnit<'_>) -> usize
+    ensures count { result ≡ length (said unit.now).variables }
+    ensures few { result ≤ 32 }
+{
+    unit.variables().len()
+}
+
 // The type of a variable; past the last one there is none to be asked for.
 fn domain_of(unit: &CheckedUnit<'_>, variable: usize) -> Domain
     ensures { result ≡ slice_index_or (domains (said unit.now)) variable Integer }
@@ -84,59 +96,102 @@ fn statement_at(unit: &CheckedUnit<'_>, place: usize) -> Statement
     statement.unwrap_or(Statement::Hang)
 }
 
-impl Page<'_, CellRow> {
-    ghost use Rattle.sheets.specs.Writings.{Extends, Counts};
+ghost use Rattle.sheets.specs.Writings.{page, cells_page, Counts, Extends};
 
-    // A term, with cells in the place of what it mentions.
-    fn term(&mut self, term: &[UnitRow], before: &Current, after: &Current)
-        requires { Counts self.old (length term.now) }
-        ensures { Extends self.old (over (current_in before.now) (current_in after.now) term.now) self.new }
+// One record more, behind those that were written.
+fn push<T: Copy>(records: &mut [T], count: &mut usize, entry: T)
+    requires { count.old + 1 < 18446744073709551616 }
+    ensures { Extends (page records.old count.old) (entry ∷ []) (page records.new count.new) }
+{
+    if *count < records.len() {
+        records[*count] = entry;
+    }
+    *count += 1;
+}
+
+// A term, with cells in the place of what it mentions.
+fn push_term(
+    records: &mut [CellRow],
+    count: &mut usize,
+    term: &[UnitRow],
+    before: &Current,
+    after: &Current,
+)
+    requires { Counts (page records.old count.old) (length term.now) }
+    ensures { Extends (page records.old count.old) (over (current_in before.now) (current_in after.now) term.now) (page records.new count.new) }
+{
+    for row in term {
+        push(records, count, cell_row(before, after, *row));
+    }
+}
+
+impl<'a> Writer<'a> {
+    ghost use Rattle.sheets.specs.Writings.{Starts};
+
+    // With two cells for each variable of the unit.
+    pub(super) fn start(
+        unit: &CheckedUnit<'_>,
+        rows: &'a mut [CellRow],
+        parts: &'a mut [Part],
+        cells: &'a mut [Cell],
+    ) -> Writer<'a>
+        ensures lent_rows { result.rows.ghost_name ≡ rows.entry.ghost_name }
+        ensures lent_parts { result.parts.ghost_name ≡ parts.entry.ghost_name }
+        ensures lent_cells { result.cells.ghost_name ≡ cells.entry.ghost_name }
+        ensures starts { Starts (said unit.now) rows.old parts.old cells.old result }
     {
-        for row in term {
-            self.push(cell_row(before, after, *row));
-        }
+        let variables = count(unit);
+        let mut writer = Writer {
+            rows,
+            parts,
+            cells,
+            written: Lengths::default(),
+            current: Current::start(variables),
+        };
+        writer.new_cells(unit, &places()[..variables]);
+        writer
     }
 }
 
 impl Writer<'_> {
-    ghost use Rattle.sheets.specs.Writings.{Writes, Counts, CountsAll, progress, headed};
+    ghost use Rattle.sheets.specs.Writings.{Writes, Fills, CountsAll, progress, headed};
 
     // A part, which may set a cell.
     fn part(&mut self, set: Option<usize>, term: &[UnitRow], after: &Current)
         requires { CountsAll self.old (headed set (over (current_in self.old.current) (current_in after.now) term.now) ∷ []) [] }
         ensures { Writes self.old (headed set (over (current_in self.old.current) (current_in after.now) term.now) ∷ []) [] (current_in self.old.current) self.new }
     {
-        let first = self.rows.count;
+        let first = self.written.rows;
         if let Some(cell) = set {
-            self.rows.push(Row::Operator(Operator::Equal));
-            self.rows.push(Row::Mention(cell));
+            push(self.rows, &mut self.written.rows, Row::Operator(Operator::Equal));
+            push(self.rows, &mut self.written.rows, Row::Mention(cell));
         }
         let before = self.current;
-        self.rows.term(term, &before, after);
-        let rows = self.rows.count - first;
-        self.parts.push(Part { first, rows });
+        push_term(self.rows, &mut self.written.rows, term, &before, after);
+        let rows = self.written.rows - first;
+        push(self.parts, &mut self.written.parts, Part { first, rows });
     }
 
     // Two cells, for a value of a type and for a shadow, with the parts that set them.
     fn two_cells(&mut self, domain: Domain, value_by: Option<usize>, shadow_by: Option<usize>)
-        requires { Counts self.old.cells 2 }
+        requires { Counts (cells_page self.old) 2 }
         ensures { Writes self.old [] (cell_for value_by domain ∷ cell_for shadow_by Boolean ∷ []) (current_in self.old.current) self.new }
     {
-        self.cells.push(cell_of(domain, value_by));
-        self.cells.push(cell_of(Domain::Boolean, shadow_by));
+        push(self.cells, &mut self.written.cells, cell_of(domain, value_by));
+        push(self.cells, &mut self.written.cells, cell_of(Domain::Boolean, shadow_by));
     }
 
     // Two cells for each variable that is listed, and the current cells with these in place.
     fn new_cells(&mut self, unit: &CheckedUnit<'_>, listed: &[usize]) -> Current
-        requires counts { Counts self.old.cells (2 * length listed.now) }
+        requires counts { Counts (cells_page self.old) (2 * length listed.now) }
         requires known { list_all (λ v. nat_lt (2 * v + 1) self.old.current.count) listed.now ≡ true }
         ensures writes { Writes self.old [] (map (cell_for None) (types_at (said unit.now) listed.now)) (current_in self.old.current) self.new }
         ensures size { result.count ≡ self.old.current.count }
-        ensures put { current_in result ≡ stored listed.now (cells_from self.old.cells.count listed.now) (current_in self.old.current) }
+        ensures put { current_in result ≡ stored listed.now (cells_from self.old.written.cells listed.now) (current_in self.old.current) }
     {
         let mut after = self.current;
         for variable in listed {
-            after.put(*variable, self.cells.count);
+            after.put(*variable, self.written.cells);
             self.two_cells(domain_of(unit, *variable), None, None);
         }
         after
@@ -148,7 +203,7 @@ impl Writer<'_> {
         requires known { 2 * variable + 1 < self.old.current.count }
         ensures { Writes self.old (parts_of (progress self.old) (sentence_in unit.now.tables.rows.now (Assign variable shadow value))) (cells_of (said unit.now) (progress self.old) (sentence_in unit.now.tables.rows.now (Assign variable shadow value))) (moved (progress self.old) (sentence_in unit.now.tables.rows.now (Assign variable shadow value))) self.new }
     {
-        let (cell, part, before) = (self.cells.count, self.parts.count, self.current);
+        let (cell, part, before) = (self.written.cells, self.written.parts, self.current);
         self.two_cells(domain_of(unit, variable), Some(part), Some(part + 1));
         self.part(Some(cell), term_rows(unit.rows(), value), &before);
         self.part(Some(cell + 1), term_rows(unit.rows(), shadow), &before);
@@ -191,5 +246,22 @@ impl Writer<'_> {
         ensures { Writes self.old (parts_of (progress self.old) (sentence (said unit.now) place)) (cells_of (said unit.now) (progress self.old) (sentence (said unit.now) place)) (moved (progress self.old) (sentence (said unit.now) place)) self.new }
     {
         self.statement(unit, statement_at(unit, place));
+    }
+
+    // What the statements of a path add, from its first turn on.
+    pub(super) fn along(&mut self, unit: &CheckedUnit<'_>, first: Turn)
+        requires counts { CountsAll self.old (parts_along (said unit.now) (progress self.old) (told (steps_of (said unit.now)) first)) (cells_along (said unit.now) (progress self.old) (told (steps_of (said unit.now)) first)) }
+        requires size { self.old.current.count ≡ 2 * length (said unit.now).variables }
+        requires tells { Tells (steps_of (said unit.now)) first }
+        ensures lent_rows { self.new.rows.ghost_name ≡ self.old.rows.ghost_name }
+        ensures lent_parts { self.new.parts.ghost_name ≡ self.old.parts.ghost_name }
+        ensures lent_cells { self.new.cells.ghost_name ≡ self.old.cells.ghost_name }
+        ensures fills { Fills self.old (parts_along (said unit.now) (progress self.old) (told (steps_of (said unit.now)) first)) (cells_along (said unit.now) (progress self.old) (told (steps_of (said unit.now)) first)) self.new }
+    {
+        let mut turn = Some(first);
+        while let Some(here) = turn {
+            self.visit(unit, here.place());
+            turn = unit.after(here);
+        }
     }
 }

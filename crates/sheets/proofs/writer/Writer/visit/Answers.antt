@@ -1,4 +1,4 @@
-use Rattle.sheets.proofs.Telling.{told_below, told_counts, told_writes}
+use Rattle.sheets.proofs.Saying.{told_below, told_counts, told_writes}
 use Rattle.sheets.proofs.writer.Writer.visit.Goals as goal
 
 pub statement-requires-clause-counts : goal.statement-requires-clause-counts

@@ -1,8 +1,0 @@
-use Rattle.std.proofs.Common.{take}
-use Rattle.sheets.specs.Currents.{current_in}
-use Rattle.sheets.specs.PathSheets.{over}
-use Rattle.sheets.specs.Writings.{Extends}
-use Rattle.sheets.proofs.writer.Page+CellRow.term.Given as goal
-
-abbrev pub invariant-loop-row : goal.invariant-loop-row
-invariant-loop-row l = Extends l.initial.self (over (current_in l.before) (current_in l.after) (take l.row-index l.term)) l.self

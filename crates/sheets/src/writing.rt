@@ -1,0 +1,44 @@
+// Writing: the sheet of a path in lent buffers.
+
+ghost use Rattle.std.specs.Prelude.{◌≡◌};
+ghost use Rattle.checking.specs.CheckedUnits.{said};
+ghost use Rattle.sheets.specs.Matches.{Matches, SheetsKeep};
+ghost use Rattle.sheets.specs.Drafts.{Drafts, Measures, WritesSheet};
+
+use super::cell::{Cell, CellRow};
+use super::fault::SheetFault;
+use super::part::Part;
+use super::writer::Writer;
+use checking::unit::CheckedUnit;
+use jcode::refusal::Refusal;
+
+// How long the buffers of a sheet have to be.
+#[derive(Clone, Copy, Debug, Default, PartialEq, Eq)]
+pub struct Lengths {
+    pub rows: usize,
+    pub parts: usize,
+    pub cells: usize,
+}
+
+// Writes the sheet of a path as far as there is room, and tells how long it is; `None` where there is no such path.
+fn draft(
+    unit: &CheckedUnit<'_>,
+    number: usize,
+    rows: &mut [CellRow],
+    parts: &mut [Part],
+    cells: &mut [Cell],
+) -> Option<Lengths>
+    ensures { Drafts (said unit.now) number rows.old parts.old cells.old result rows.new parts.new cells.new }
+{
+    let first = unit.path(number)?;
+    let mut writer = Writer::start(unit, rows, parts, cells);
+    writer.along(unit, first);
+    Some(writer.written)
+}
+
+// How long the sheet of a path is.
+pub fn measure(unit: &CheckedUnit<'_>, number: usize) -> Result<Lengths, SheetFault>
+    ensures { Measures (said unit.now) number result }
+{
+    draft(unit, number, &mut [], &mut [], &mut []).ok_or(Refusal::Condition.into())
+}
