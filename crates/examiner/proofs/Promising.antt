@@ -19,7 +19,7 @@ use Rattle.examiner.specs.Histories.{History, told, accepted, how_many, first_fa
 use Rattle.examiner.specs.Lives.{Leads, Goes, Promised}
 use Rattle.examiner.specs.Promises.{Kept}
 use Rattle.examiner.specs.Steps.{path_count, judged, verdict_on}
-use Rattle.examiner.specs.Tallies.{total, summed}
+use Rattle.examiner.specs.Tallies.{judgement_by, summed}
 use Rattle.examiner.proofs.Counting.{all_counted}
 use Rattle.examiner.proofs.Judging.{Sure}
 use Rattle.examiner.proofs.Keeping.{kept}
@@ -36,7 +36,7 @@ telling u t = record {
   passed = t.passed;
   failed = t.failed;
   «open» = t.open;
-  judgement = judged t.lowest (ltb (total t) (path_count u)) (ltb 0 t.open);
+  judgement = judgement_by u t;
 }
 
 pub tells : (u : JUnit) (tag : ℕ) (t : Tally) (v : Verdict) → v ≡ telling u t → Follows u tag (told v) t t

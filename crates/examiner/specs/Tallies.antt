@@ -1,12 +1,13 @@
 -- Tallies: what an examination remembers of its history.
-use Rattle.std.specs.Prelude.{◌≡◌, ℕ, ◌+◌, true, false, is_some}
+use Rattle.std.specs.Prelude.{◌≡◌, ℕ, ◌+◌, true, false, is_some, nat_lt}
 use Rattle.jcode.specs.Units.{JUnit}
 use Rattle.sheets.specs.declared.outcome.Outcome.{Outcome}
 use Rattle.sheets.specs.declared.outcome.Outcome.TheVariants.{Passed, Failed, Open}
 use Rattle.examiner.specs.declared.slip.Slip.{Slip}
 use Rattle.examiner.specs.declared.tally.Tally.{Tally}
+use Rattle.examiner.specs.declared.verdict.Judgement.{Judgement}
 use Rattle.examiner.specs.Histories.{History, accepted, out, one_if, how_many, or_now, first_failed}
-use Rattle.examiner.specs.Steps.{Happened}
+use Rattle.examiner.specs.Steps.{path_count, judged, Happened}
 
 -- how many conditions are settled
 abbrev pub total : Tally → ℕ
@@ -45,3 +46,7 @@ pub record Comes (u : JUnit) (tag : ℕ) (h : History) (t : Tally) : Type 0 wher
 -- and so does some history
 abbrev pub Reached : JUnit → ℕ → Tally → Type 0
 Reached u tag t = ∥ ((h : History) × Comes u tag h t) ∥₁
+
+-- what it tells of a unit
+abbrev pub judgement_by : JUnit → Tally → Judgement
+judgement_by u t = judged t.lowest (nat_lt (total t) (path_count u)) (nat_lt 0 t.open)

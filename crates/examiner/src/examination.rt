@@ -24,11 +24,10 @@ pub struct Examination<'a> {
 }
 
 impl<'a> Examination<'a> {
-    ghost use Rattle.std.specs.Prelude.{◌↔◌, [], Some, IsTrue, nat_lt};
+    ghost use Rattle.std.specs.Prelude.{◌↔◌, [], Some, IsTrue};
     ghost use Rattle.examiner.specs.Histories.{took, handed_back, told, out};
     ghost use Rattle.examiner.specs.Lives.{Leads, Goes, Promised};
-    ghost use Rattle.examiner.specs.Steps.{judged};
-    ghost use Rattle.examiner.specs.Tallies.{IsDue};
+    ghost use Rattle.examiner.specs.Tallies.{IsDue, judgement_by};
 
     pub fn new(unit: CheckedUnit<'a>, tag: u64) -> Examination<'a>
         ensures { Leads (said unit.entry) tag [] result }
@@ -84,7 +83,7 @@ impl<'a> Examination<'a> {
     }
 
     fn judgement(&self) -> Judgement
-        ensures { result ≡ judged self.now.tally.lowest (nat_lt (total self.now.tally) (path_count (said self.now.unit))) (nat_lt 0 self.now.tally.open) }
+        ensures { result ≡ judgement_by (said self.now.unit) self.now.tally }
     {
         if let Some(number) = self.tally.lowest {
             Judgement::Failed(number)
