@@ -47,7 +47,7 @@ nothing sc start statements rows none = record {
       ap (λ n. read_statements sc (length rows.records.now) (length statements.records.now) n [] start.bytes.now start.at) room;
 }
 
-rows_push : {T : Type 0} (ss : List (Sentence T)) (s : Sentence T) → rows_all (ss ++ s ∷ []) ≡ rows_all ss ++ rows_of s
+pub rows_push : {T : Type 0} (ss : List (Sentence T)) (s : Sentence T) → rows_all (ss ++ s ∷ []) ≡ rows_all ss ++ rows_of s
 rows_push [] s = append-nil (rows_of s)
 rows_push (t ∷ ss) s = ap (λ rs. rows_of t ++ rs) (rows_push ss s) ∙ sym (append_assoc (rows_of t) (rows_all ss) (rows_of s))
 

@@ -9,3 +9,6 @@ pub mod ReadStatements
 pub mod ReadUnits
 pub mod Lines
 pub mod Units
+pub mod Language
+pub mod Spelling
+pub mod Notation

@@ -64,7 +64,7 @@ ends_in b s = option_eq nat_eq (slice_get s (length s - 1)) (Some b)
 abbrev pub white : ℕ → List ℕ → ℕ → Option ℕ
 white last bytes at = then_some (ends_in last (slice bytes (run_at separator bytes at))) (run_at separator bytes at).length
 
-abbrev passed : ℕ → Option ℕ → Answer (Unit {0})
+abbrev pub passed : ℕ → Option ℕ → Answer (Unit {0})
 passed at None = refuse Missing at
 passed at (Some n) = got tt (at + n)
 
@@ -89,7 +89,7 @@ abbrev pub read_word : Reader Span
 read_word bytes at =
     cond (passes letter bytes at) (got (run_at name_byte bytes at) (at + (run_at name_byte bytes at).length)) (refuse Missing at)
 
-abbrev short : Span → ℕ → Answer Span
+abbrev pub short : Span → ℕ → Answer Span
 short s j = cond (nat_lt 32 s.length) (refuse Limit s.start) (got s j)
 
 abbrev pub read_name : Reader Span
@@ -109,7 +109,7 @@ is_proper low high s n = not (nat_lt 1 (length s) && option_eq nat_eq (slice_get
 abbrev pub proper : List ℕ → ℕ → ℕ → Option ℕ
 proper s low high = then_some (is_proper low high s (value_after 0 s)) (value_after 0 s)
 
-abbrev numbered : ℕ → ℕ → Option ℕ → Answer ℕ
+abbrev pub numbered : ℕ → ℕ → Option ℕ → Answer ℕ
 numbered place next None = refuse Number place
 numbered place next (Some n) = got n next
 

@@ -26,7 +26,7 @@ abbrev pub UnitRow : Type 0
 UnitRow = Row Mention
 
 -- a word with `!` after it: what it opens
-abbrev operator_head : Option Operator → Option Head
+abbrev pub operator_head : Option Operator → Option Head
 operator_head (Some o) = Some (OperatorHead o)
 operator_head None = None
 
@@ -36,7 +36,7 @@ head_of w =
     (cond (same_word w (codes "defined")) (Some Defined)
     (cond (same_word w (codes "new")) (Some NewHead) (operator_head (operator_of w))))
 
-abbrev found : ℕ → Option ℕ → ℕ → Answer ℕ
+abbrev pub found : ℕ → Option ℕ → ℕ → Answer ℕ
 found at (Some v) j = got v j
 found at None j = refuse Name at
 

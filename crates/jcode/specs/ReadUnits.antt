@@ -66,7 +66,7 @@ unfoldable pub read_declared : Reader Domain
 read_declared = read_colon ▷ (read_class ▷ (read_domain ◁ read_closing))
 
 -- whether a word stands here that a colon follows, perhaps after a gap
-abbrev colon_after : List ℕ → Answer Span → Bool
+abbrev pub colon_after : List ℕ → Answer Span → Bool
 colon_after bytes (got s j) = stands 58 bytes (past_gap bytes j)
 colon_after bytes (refused f) = false
 
@@ -96,7 +96,7 @@ pub record Fills {X : Type 0} (reader : Reader (List X)) (before : Cursor) (tabl
   pub same : after.bytes.now ≡ before.bytes.now
   pub lent : left.records.ghost_name ≡ table.records.ghost_name
 
-abbrev is_word : List ℕ → List ℕ → Answer Span → Bool
+abbrev pub is_word : List ℕ → List ℕ → Answer Span → Bool
 is_word bytes w (got s j) = same_word (slice bytes s) w
 is_word bytes w (refused f) = false
 

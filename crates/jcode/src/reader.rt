@@ -1,6 +1,7 @@
 // Reading a unit into three tables.
 
 ghost use Rattle.std.specs.Prelude.{◌≡◌};
+ghost use Rattle.jcode.specs.Notation.{AcceptsExactly};
 ghost use Rattle.jcode.specs.Pieces.{Reads};
 ghost use Rattle.jcode.specs.ReadUnits.{read_heading, tables, read_unit, answered, left_by, attempted, achieved};
 
@@ -80,6 +81,7 @@ pub fn read(
 ) -> Result<Outline, ReadFault>
     ensures result { result ≡ answered (read_unit (tables variables.old statements.old rows.old) bytes.now start) }
     ensures left { tables variables.new statements.new rows.new ≡ left_by (tables variables.old statements.old rows.old) (read_unit (tables variables.old statements.old rows.old) bytes.now start) }
+    ensures notation { AcceptsExactly bytes.now start (tables variables.old statements.old rows.old) result (tables variables.new statements.new rows.new) }
 {
     let outline = attempt(
         bytes,

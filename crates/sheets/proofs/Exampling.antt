@@ -10,6 +10,9 @@ use Rattle.flow.specs.Paths.{Path}
 use Rattle.flow.specs.Steps.{at, is_break}
 use Rattle.flow.specs.declared.step.Step.TheVariants as step
 use Rattle.flow.proofs.Leading.{never}
+use Rattle.jcode.specs.ReadStatements.{read_single, read_again, read_repeated, read_text_end}
+use Rattle.jcode.specs.ReadTerms.{read_begin, read_close}
+use Rattle.jcode.specs.ReadUnits.{read_unit, read_high, read_bounds, read_domain, read_colon, read_class, read_closing, read_declared, read_fresh, read_entry, read_sentence, read_finish, read_heading}
 use Rattle.jcode.specs.Sentences.{Hang}
 use Rattle.jcode.specs.Units.{JUnit}
 use Rattle.checking.specs.Breaks.{steps_of}
@@ -19,7 +22,7 @@ use Rattle.sheets.specs.Runs.{sentence, are_of, types_at, Reaches, starts, goes,
 use Rattle.sheets.specs.PathSheets.{sheet_of}
 use Rattle.sheets.specs.Valuations.{Falsifies}
 use Rattle.sheets.specs.Matches.{terms_kept, Sensible}
-use Rattle.sheets.specs.PathExamples.{limit, second, second_sheet, past, unchosen, Examples}
+use Rattle.sheets.specs.PathExamples.{limit, limit_text, room, Tells, second, second_sheet, past, unchosen, Examples}
 use Rattle.sheets.proofs.Parts.{equals}
 use Rattle.sheets.proofs.Fitting.{all_at}
 use Rattle.sheets.proofs.Running.{matches}
@@ -96,8 +99,14 @@ split_ends : Fails unchosen → ⊥
 split_ends = none_fails unchosen (first_only (step.Split 1 ∷ step.When 1 ∷ step.Require ∷ step.Hang ∷ step.When 1 ∷ step.Hang ∷ []) refl) (λ j given s t g. omega (arith, eqb-true j 1 g.next.1))
     no_when (λ s f. f) (λ s f. f)
 
+-- reading it by computation
+limit_is_read : Tells limit_text (read_unit room limit_text 0) limit
+unfolding read_single read_again read_repeated read_text_end read_begin read_close read_high read_bounds read_domain read_colon read_class read_closing read_declared read_fresh read_entry read_sentence read_finish read_heading
+limit_is_read = (refl, refl)
+
 pub examples : Examples
 examples = record {
+  limit_is_read = limit_is_read;
   limit_has = refl;
   second_has = refl;
   second_stands = refl;

@@ -24,3 +24,7 @@ pub mod Following
 pub mod Starting
 pub mod Bounding
 pub mod Drafting
+pub mod Rooming
+pub mod Telling
+pub mod Spanning
+pub mod Replaying

@@ -1,5 +1,6 @@
 -- The valuations that falsify a path's sheet are its failing runs.
-use Rattle.std.proofs.Common.{◌≡◌, ◌↔◌, ℕ, zero, suc, ◌*◌, ◌<◌, ◌≤◌, true, List, [], ◌∷◌, ◌++◌, map, length, get_or, take, drop, ℤ, pos, None, refl, sym, ap, ap₂, ◌∙◌, subst, arith, length-append}
+use Rattle.std.proofs.Common.{◌≡◌, ◌↔◌, ℕ, ◌*◌, ◌<◌, ◌≤◌, true, List, [], ◌∷◌, ◌++◌, map, length, take, drop, ℤ, pos, None, refl, sym, ap, ap₂, ◌∙◌, subst, arith, length-append}
+use Rattle.std.proofs.Math.ListN.{get_or-map}
 use Rattle.std.proofs.lemmas.List.{length-map, drop_at, take_at, take-append-drop, length-take-le}
 use Rattle.flow.specs.Steps.{at, is_break, is_require}
 use Rattle.flow.specs.declared.step.Step.TheVariants as step
@@ -19,13 +20,8 @@ use Rattle.sheets.proofs.Typing.{length-within, within_append, within_cut, withi
 use Rattle.sheets.proofs.Parts.{AllTrue, parts_say, number_over}
 
 -- ---- statements and steps
-step_at : (ss : List (Sentence (List ℕ))) (i : ℕ) → get_or (map step_of ss) i step.Hang ≡ step_of (get_or ss i Hang)
-step_at [] i = refl
-step_at (s ∷ ss) zero = refl
-step_at (s ∷ ss) (suc i) = step_at ss i
-
 pub step_here : (u : JUnit) (i : ℕ) → at (steps_of u) i ≡ step_of (sentence u i)
-step_here u i = step_at u.statements i
+step_here u i = get_or-map step_of u.statements i Hang
 
 -- ---- parts that come before others
 before_goal : (v : List ℤ) (es : List CellTerm) (f : CellTerm) (fs : List CellTerm) → GoalAloneFalse v (es ++ f ∷ fs) ↔ (AllTrue v es × GoalAloneFalse v (f ∷ fs))

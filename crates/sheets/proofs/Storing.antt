@@ -1,8 +1,8 @@
 -- What is laid out as a store, and cells in which to look it up.
-use Rattle.std.proofs.Common.{◌≡◌, ℕ, ◌+◌, ◌*◌, ◌<◌, ◌≤◌, List, [], ◌∷◌, ◌++◌, map, length, get_or, set, drop, refl, sym, ap, ◌∙◌, arith, length-set}
+use Rattle.std.proofs.Common.{◌≡◌, ℕ, suc, ◌+◌, ◌*◌, ◌<◌, ◌≤◌, List, [], ◌∷◌, ◌++◌, map, length, get_or, set, drop, refl, sym, ap, ◌∙◌, arith, length-set}
 use Rattle.std.proofs.lemmas.List.{map-set, get_or-drop, drop-drop, drop_at, get_or-map}
 use Rattle.std.proofs.ByRecursion.{All-set}
-use Rattle.std.specs.List.{AllByRecursion as All}
+use Rattle.std.specs.List.{AllByRecursion as All, range_with_len}
 use Rattle.jcode.specs.declared.mention.Aspect.{Aspect}
 use Rattle.jcode.specs.declared.mention.Aspect.TheVariants.{Value, Shadow}
 use Rattle.jcode.specs.declared.mention.Mention.{Mention}
@@ -28,6 +28,14 @@ map-stored f (v ∷ vs) (x ∷ d ∷ xs) s =
 pub length-cells_from : {X : Type 0} (n : ℕ) (xs : List X) → length (cells_from n xs) ≡ 2 * length xs
 length-cells_from n [] = refl
 length-cells_from n (x ∷ xs) = omega (arith, length-cells_from (n + 2) xs)
+
+-- cells that are numbered on
+pub range_of_cells : {X : Type 0} (n : ℕ) (xs : List X) → cells_from n xs ≡ range_with_len n (2 * length xs)
+range_of_cells n [] = refl
+range_of_cells n (x ∷ xs) =
+    let twice : 2 * suc (length xs) ≡ suc (suc (2 * length xs)) = omega arith in
+    let on : n + 2 ≡ n + 1 + 1 = omega arith in
+    ap (λ cs. n ∷ (n + 1) ∷ cs) (range_of_cells (n + 2) xs ∙ ap (λ m. range_with_len m (2 * length xs)) on) ∙ ap (range_with_len n) (sym twice)
 
 pub entry_below : (a : Aspect) (v k : ℕ) → v < k → entry_of a v < 2 * k
 entry_below Value v k h = omega arith

@@ -12,3 +12,4 @@ pub mod Writings
 pub mod Drafts
 pub mod Places
 pub mod PathExamples
+pub mod Replays

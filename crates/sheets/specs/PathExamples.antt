@@ -1,5 +1,5 @@
 -- Worked examples of sheets and runs, and what false readings would make of them.
-use Rattle.std.specs.Prelude.{◌≡◌, ℕ, List, [], ◌∷◌, codes, ℤ, pos, Some, None, Option}
+use Rattle.std.specs.Prelude.{◌≡◌, ℕ, List, [], ◌∷◌, length, replicate, codes, ℤ, pos, Some, None, Option}
 use Rattle.terms.specs.declared.kind.Kind.TheVariants.{Number, Truth}
 use Rattle.terms.specs.declared.operator.Operator.TheVariants.{Addi, Gei, Lei, Lti, True, False, Equal}
 use Rattle.terms.specs.declared.row.Row.{Row}
@@ -9,9 +9,12 @@ use Rattle.flow.specs.Paths.{Path}
 use Rattle.jcode.specs.declared.mention.Aspect.TheVariants.{Value, Shadow}
 use Rattle.jcode.specs.declared.mention.Mention.{Mention}
 use Rattle.jcode.specs.declared.mention.Stage.TheVariants.{Current, New as Given}
-use Rattle.jcode.specs.declared.variable.Domain.TheVariants.{Subrange}
+use Rattle.jcode.specs.declared.variable.Domain.TheVariants.{Integer, Subrange}
 use Rattle.jcode.specs.Sentences.{Sentence, Hang, Break, Require, Proclaim, New, Assign, Split, When}
-use Rattle.jcode.specs.Units.{Declared, JUnit}
+use Rattle.jcode.specs.Units.{Declared, JUnit, unit_in}
+use Rattle.jcode.specs.Pieces.{Answer, got, refused}
+use Rattle.jcode.specs.ReadUnits.{Located, Tables, read_unit}
+use Rattle.jcode.specs.declared.statement.Statement.TheVariants as stands
 use Rattle.checking.specs.Breaks.{steps_of}
 use Rattle.sheets.specs.declared.cell.Cell.{Cell}
 use Rattle.sheets.specs.declared.part.Part.{Part}
@@ -52,6 +55,23 @@ limit = unit_with (
     ∷ Require (Operator Lti ∷ p ∷ Constant (pos 8) ∷ []) (codes "high")
     ∷ Hang
     ∷ [])
+
+-- as it is written, and tables that just hold it
+abbrev pub limit_text : List ℕ
+limit_text =
+    codes "BEGIN Limit\np : (variable (subrange 0 9))\nBREAK (/entry/)\nREQUIRE (gei! (p) (consti! 0)) (/low/)\nPROCLAIM (lei! (p) (consti! 7))\nASSIGN (p) (p) (true!) (addi! (p) (consti! 1))\nREQUIRE (lti! (p) (consti! 8)) (/high/)\nHANG\nEND\n"
+
+abbrev pub room : Tables
+room = record {
+  variables = replicate 1 (record { name = record { start = 0; length = 0 }; domain = Integer });
+  statements = replicate 6 stands.Hang;
+  rows = replicate 13 (Constant (pos 0));
+}
+
+-- what is read from the bytes is this unit, and nothing is left of them
+abbrev pub Tells : List ℕ → Answer Located → JUnit → Type 0
+Tells bytes (got l next) u = (unit_in bytes l ≡ u) × (next ≡ length bytes)
+Tells bytes (refused f) u = ⊥
 
 abbrev pub second : List ℕ
 second = 0 ∷ 1 ∷ 2 ∷ 3 ∷ 4 ∷ []
@@ -117,6 +137,7 @@ abbrev pub unchosen : JUnit
 unchosen = unit_with (Break [] ∷ Split 1 ∷ When is_false 1 ∷ Require is_false [] ∷ Hang ∷ When is_false 1 ∷ Hang ∷ [])
 
 pub record Examples : Type 0 where
+  pub limit_is_read : Tells limit_text (read_unit room limit_text 0) limit
   pub limit_has : paths (steps_of limit) ≡ (0 ∷ 1 ∷ []) ∷ second ∷ []
   pub second_has : sheet_of limit second ≡ second_sheet
   pub second_stands : laid_from 0 second_sheet.parts ≡ pair 0 3 ∷ pair 3 3 ∷ pair 6 5 ∷ pair 11 3 ∷ pair 14 3 ∷ []

@@ -8,12 +8,15 @@ use Rattle.sheets.specs.Sheets.{CellTerm, Condition}
 abbrev pub cell_in : List ℤ → ℕ → ℤ
 cell_in v i = slice_index_or v i (pos 0)
 
+abbrev pub allows : Cell → ℤ → Bool
+allows c x = int_le c.low x && int_le x c.high
+
 -- as many numbers as cells, each within its cell's bounds
 abbrev pub is_within : List Cell → List ℤ → Bool
 is_within [] [] = true
 is_within [] (x ∷ xs) = false
 is_within (c ∷ cs) [] = false
-is_within (c ∷ cs) (x ∷ xs) = (int_le c.low x && int_le x c.high) && is_within cs xs
+is_within (c ∷ cs) (x ∷ xs) = allows c x && is_within cs xs
 
 abbrev pub Within : List Cell → List ℤ → Type 0
 Within cs v = is_within cs v ≡ true

@@ -1,6 +1,7 @@
 // Cells: the numbers that a sheet speaks of, each by its place.
 
 ghost use Rattle.std.specs.Prelude.{◌≡◌};
+ghost use Rattle.sheets.specs.Valuations.{allows};
 ghost use Rattle.sheets.specs.Sheets.{is_bound, is_bounded, cell_kind, cell_bounds};
 
 use reckoning::mark::Mark;
@@ -37,6 +38,13 @@ impl Cell {
         ensures { result ≡ is_bounded self }
     {
         is_bound(self.kind, self.low) && is_bound(self.kind, self.high) && self.low <= self.high
+    }
+
+    // Whether a number lies within its bounds.
+    pub fn allows(&self, number: i64) -> bool
+        ensures { result ≡ allows self.now number }
+    {
+        (self.low..=self.high).contains(&number)
     }
 }
 

@@ -9,6 +9,7 @@ pub mod judge;
 pub mod outcome;
 pub mod part;
 pub mod path;
+pub mod replay;
 pub mod setting;
 pub mod sheet;
 mod tables;

@@ -26,7 +26,8 @@ pub struct Sheet<'a> {
 }
 
 impl<'a> Sheet<'a> {
-    ghost use Rattle.sheets.specs.Places.{rows_in, parts_in, cells_in, says, false_alone, Filled};
+    ghost use Rattle.sheets.specs.Places.{rows_in, parts_in, cells_in, says, marks_for, false_alone, Filled};
+    ghost use Rattle.sheets.specs.Tables.{IsSheet};
     ghost use Rattle.sheets.specs.Sheets.{part, is_some_of, set_by, cell_set};
 
     // `false!` alone, until tables fill it.
@@ -58,6 +59,18 @@ impl<'a> Sheet<'a> {
         Ok(())
     }
 
+    // Of tables that are known to keep the rules.
+    pub(super) fn of(rows: &'a [CellRow], parts: &'a [Part], cells: &'a [Cell]) -> Sheet<'a>
+        requires { IsSheet rows.now parts.now cells.now }
+        ensures rows { rows_in result ≡ rows.now }
+        ensures parts { parts_in result ≡ parts.now }
+        ensures cells { cells_in result ≡ cells.now }
+    {
+        Sheet {
+            tables: Tables { rows, parts, cells },
+        }
+    }
+
     pub fn rows(&self) -> &'a [CellRow]
         ensures { result.now ≡ rows_in self.now }
     {
@@ -76,6 +89,13 @@ impl<'a> Sheet<'a> {
         self.tables.cells
     }
 
+    // How many working marks those who work with it are lent: one for each cell and each row.
+    pub fn marks(&self) -> usize
+        ensures { result ≡ marks_for self.now }
+    {
+        self.cells().len() + self.rows().len()
+    }
+
     // The rows of a part, none past the last.
     pub fn part(&self, place: usize) -> &'a [CellRow]
         ensures { result.now ≡ part (says self.now) place }
@@ -87,7 +107,7 @@ impl<'a> Sheet<'a> {
     fn is_set_by(&self, cell: usize, place: usize) -> bool
         ensures { result ≡ is_some_of place (set_by (cells_in self.now) cell) }
     {
-        self.tables.cells.get(cell).and_then(|cell| cell.set_by) == Some(place)
+        self.cells().get(cell).and_then(|cell| cell.set_by) == Some(place)
     }
 
     // The cell that a part sets: the one that it begins with `equal!` of, if that is said to be set by it.

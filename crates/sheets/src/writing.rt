@@ -1,6 +1,6 @@
 // Writing: the sheet of a path in lent buffers.
 
-ghost use Rattle.std.specs.Prelude.{◌≡◌};
+ghost use Rattle.std.specs.Prelude.{◌≡◌, ◌≤◌, Decides};
 ghost use Rattle.checking.specs.CheckedUnits.{said};
 ghost use Rattle.sheets.specs.Matches.{Matches, SheetsKeep};
 ghost use Rattle.sheets.specs.Drafts.{Drafts, Measures, WritesSheet};
@@ -18,6 +18,15 @@ pub struct Lengths {
     pub rows: usize,
     pub parts: usize,
     pub cells: usize,
+}
+
+impl Lengths {
+    // Whether buffers of these lengths have room.
+    fn fit(self, rows: usize, parts: usize, cells: usize) -> bool
+        ensures { Decides result ((self.rows ≤ rows) × (self.parts ≤ parts) × (self.cells ≤ cells)) }
+    {
+        self.rows <= rows && self.parts <= parts && self.cells <= cells
+    }
 }
 
 // Writes the sheet of a path as far as there is room, and tells how long it is; `None` where there is no such path.
@@ -41,4 +50,36 @@ pub fn measure(unit: &CheckedUnit<'_>, number: usize) -> Result<Lengths, SheetFa
     ensures { Measures (said unit.now) number result }
 {
     draft(unit, number, &mut [], &mut [], &mut []).ok_or(Refusal::Condition.into())
+}
+
+// Writes the sheet of a path, if there is room for all of it.
+fn whole(
+    unit: &CheckedUnit<'_>,
+    number: usize,
+    rows: &mut [CellRow],
+    parts: &mut [Part],
+    cells: &mut [Cell],
+) -> Result<Lengths, SheetFault>
+    ensures { WritesSheet (said unit.now) number rows.old parts.old cells.old result rows.new parts.new cells.new }
+{
+    let needed = measure(unit, number)?;
+    if !needed.fit(rows.len(), parts.len(), cells.len()) {
+        return Err(Refusal::Buffer.into());
+    }
+    draft(unit, number, rows, parts, cells).ok_or(Refusal::Condition.into())
+}
+
+// Writes the sheet of a path to the front of the buffers, and tells how long it is. The sheets of a checked unit keep the rules of sheets, and say what its runs do.
+pub fn write(
+    unit: &CheckedUnit<'_>,
+    number: usize,
+    rows: &mut [CellRow],
+    parts: &mut [Part],
+    cells: &mut [Cell],
+) -> Result<Lengths, SheetFault>
+    ensures writes { WritesSheet (said unit.now) number rows.old parts.old cells.old result rows.new parts.new cells.new }
+    ensures keep { SheetsKeep (said unit.now) }
+    ensures runs { Matches (said unit.now) }
+{
+    whole(unit, number, rows, parts, cells)
 }

@@ -1,0 +1,139 @@
+-- What reading answers is exactly what the notation allows.
+use Rattle.std.proofs.Common.{◌≡◌, ℕ, ◌+◌, ◌-◌, ◌≤◌, Bool, false, List, [], map, length, take, drop, replicate, get_or, pos, Ok, Err, Result, sym, refl, ap, ◌∙◌, subst, subst₂, arith}
+use Rattle.std.proofs.lemmas.List.{take_all, get_or_past, length-replicate}
+use Rattle.terms.specs.declared.row.Row.TheVariants.{Constant}
+use Rattle.jcode.specs.declared.reader.Outline.{Outline}
+use Rattle.jcode.specs.declared.refusal.ReadFault.{ReadFault}
+use Rattle.jcode.specs.declared.refusal.Refusal.TheVariants.{Table}
+use Rattle.jcode.specs.declared.statement.Statement.TheVariants as stands
+use Rattle.jcode.specs.declared.variable.Domain.TheVariants as domain
+use Rattle.jcode.specs.declared.variable.Variable.{Variable}
+use Rattle.jcode.specs.Bytes.{separator, passes, slice}
+use Rattle.jcode.specs.ReadTerms.{UnitRow}
+use Rattle.jcode.specs.Language.{between, Spelt}
+use Rattle.jcode.specs.Spelling.{Spells, Sizes, Within, limits}
+use Rattle.jcode.specs.Pieces.{Answer, got, refused, refuse}
+use Rattle.jcode.specs.ReadUnits.{Located, Tables, tables, rows_all, read_unit, outline, answered, left_by, written}
+use Rattle.jcode.specs.Units.{JUnit, declared_in, retold, unit_in}
+use Rattle.jcode.specs.Notation.{sizes_of, unit_told, IsUnit, TellsUnit, AreShort, AcceptsExactly}
+use Rattle.jcode.proofs.Outcomes.{got_what}
+use Rattle.jcode.proofs.Names.{length_map}
+use Rattle.jcode.proofs.Places.{byte}
+use Rattle.jcode.proofs.Agreement.{Stops, Stands, Finds, found, short, Agrees}
+use Rattle.jcode.proofs.Fronts.{passes_byte}
+use Rattle.jcode.proofs.Saying.{all_rows_told}
+use Rattle.jcode.proofs.Whole.{units, unit_agrees, unit_ends}
+use Rattle.jcode.proofs.Holding.{held_whole}
+use Rattle.jcode.proofs.Blame.{unit_blames}
+
+-- what an answer was, by what is told of it
+answered_ok : (a : Answer Located) (o : Outline) → answered a ≡ Ok o → (u : Located) × (j : ℕ) × (a ≡ got u j) × (outline u j ≡ o)
+answered_ok (got u j) o e = (u, j, refl, (let same : outline u j ≡ o = cc in same))
+answered_ok (refused f) o e = let z : ◌≡◌ {A = ℕ} 0 1 = cc in absurd (omega arith)
+
+answered_err : (a : Answer Located) (f : ReadFault) → answered a ≡ Err f → a ≡ refused f
+answered_err (got u j) f e = let z : ◌≡◌ {A = ℕ} 0 1 = cc in absurd (omega arith)
+answered_err (refused g) f e = let same : g ≡ f = cc in ap refused same
+
+module _ (bytes : List ℕ) (start : ℕ) (before : Tables) where
+  abbrev answer : Answer Located
+  answer = read_unit before bytes start
+
+  -- what is told of what was read
+  tells : (u : Located) (j : ℕ) → answer ≡ got u j → TellsUnit bytes start (sizes_of before) (outline u j) (unit_in bytes u)
+  tells u j e =
+      let ends = unit_ends before bytes start u j e in
+      let h = ends.0 in
+      let s = (unit_agrees before bytes).sound start u j (omega arith) e in
+      record {
+        is = record { spelt = s.spelt; whole = passes_byte separator refl bytes j ∙ ends.1; keeps = s.keeps };
+        fits = s.fits;
+        variables = sym (length_map (declared_in bytes) u.variables);
+        statements = sym (length_map (retold (slice bytes)) u.sentences);
+        rows = ap length (sym (all_rows_told (slice bytes) u.sentences));
+      }
+
+  -- a unit that stands there is read, or the tables are too short for it
+  reads : (u : JUnit) (next : ℕ) → IsUnit bytes start next u → Finds (sizes_of before) bytes (unit_in bytes) (Within (sizes_of before) u) answer u next
+  reads u next is = (unit_agrees before bytes).complete start u next is.spelt is.keeps (sym (passes_byte separator refl bytes next) ∙ is.whole)
+
+  module _ (result : Result Outline ReadFault) (after : Tables) (told : result ≡ answered answer) (left : after ≡ left_by before answer) where
+    holds : (u : Located) (j : ℕ) → answer ≡ got u j → unit_told bytes (outline u j) after ≡ unit_in bytes u
+    holds u j e = ap (unit_told bytes (outline u j)) (left ∙ ap (left_by before) e) ∙ held_whole bytes before u j
+
+    only : (o : Outline) → result ≡ Ok o → TellsUnit bytes start (sizes_of before) o (unit_told bytes o after)
+    only o e =
+        let m = answered_ok answer o (sym told ∙ e) in
+        subst (λ o. TellsUnit bytes start (sizes_of before) o (unit_told bytes o after)) m.3
+        (subst (TellsUnit bytes start (sizes_of before) (outline m.0 m.1)) (sym (holds m.0 m.1 m.2)) (tells m.0 m.1 m.2))
+
+    all : (u : JUnit) (next : ℕ) → IsUnit bytes start next u → Within (sizes_of before) u → (o : Outline) × (result ≡ Ok o) × (o.next ≡ next) × (unit_told bytes o after ≡ u)
+    all u next is fits = by (reads u next is)
+      where
+        by : Finds (sizes_of before) bytes (unit_in bytes) (Within (sizes_of before) u) answer u next → (o : Outline) × (result ≡ Ok o) × (o.next ≡ next) × (unit_told bytes o after ≡ u)
+        by (found a e eq) = (outline a next, told ∙ ap answered e, refl, holds a next e ∙ eq)
+        by (short place e lacks) = absurd (lacks fits)
+
+    refuses : (f : ReadFault) → result ≡ Err f → (u : JUnit) (next : ℕ) → IsUnit bytes start next u → (f.refusal ≡ Table) × (Within (sizes_of before) u → ⊥)
+    refuses f e u next is = by (reads u next is)
+      where
+        by : Finds (sizes_of before) bytes (unit_in bytes) (Within (sizes_of before) u) answer u next → (f.refusal ≡ Table) × (Within (sizes_of before) u → ⊥)
+        by (found a h eq) = let z : ◌≡◌ {A = ℕ} 0 1 = (let r : Err f ≡ Ok (outline a next) = sym e ∙ told ∙ ap answered h in cc) in absurd (omega arith)
+        by (short place h lacks) =
+            let r : Err f ≡ Err (record { refusal = Table; place = place }) = sym e ∙ told ∙ ap answered h in
+            let same : f ≡ record { refusal = Table; place = place } = cc in
+            (ap (λ f. f.refusal) same, lacks)
+
+    enough : (place : ℕ) → result ≡ Err (record { refusal = Table; place = place }) → AreShort (sizes_of before)
+    enough place e = unit_blames bytes before start place (answered_err answer _ (sym told ∙ e))
+
+abbrev variable : Variable
+variable = record { name = record { start = 0; length = 0 }; domain = domain.Integer }
+
+abbrev row : UnitRow
+row = Constant (pos 0)
+
+-- tables as long as the limits
+abbrev long : Tables
+long = tables (replicate 32 variable) (replicate 200 stands.Hang) (replicate 2000 row)
+
+long_fits : (u : JUnit) → Within limits u → Within (sizes_of long) u
+long_fits u k =
+    let a = k.variables in
+    let b = k.statements in
+    let c = k.rows in
+    record {
+      variables = omega (arith, length-replicate 32 variable);
+      statements = omega (arith, length-replicate 200 stands.Hang);
+      rows = omega (arith, length-replicate 2000 row);
+    }
+
+-- bytes that spell a unit are read as it
+spelt_whole : (u : JUnit) (w : List ℕ) → Spells u w → Within limits u → (a : Located) × (read_unit long w 0 ≡ got a (length w)) × (unit_in w a ≡ u)
+spelt_whole u w s k = by (reads w 0 long u (length w) is)
+  where
+    is : IsUnit w 0 (length w) u
+    is = record {
+      spelt = record { forward = omega arith; within = omega arith; belongs = subst (Spells u) (sym (take_all (length w - 0) w (omega arith))) s };
+      whole = passes_byte separator refl w (length w) ∙ ap separator (get_or_past w (length w) 0 (omega arith));
+      keeps = k;
+    }
+
+    by : Finds (sizes_of long) w (unit_in w) (Within (sizes_of long) u) (read_unit long w 0) u (length w) → (a : Located) × (read_unit long w 0 ≡ got a (length w)) × (unit_in w a ≡ u)
+    by (found a e eq) = (a, e, eq)
+    by (short place e lacks) = absurd (lacks (long_fits u k))
+
+one : (u v : JUnit) (w : List ℕ) → Spells u w → Within limits u → Spells v w → Within limits v → u ≡ v
+one u v w s k s′ k′ =
+    let a = spelt_whole u w s k in
+    let b = spelt_whole v w s′ k′ in
+    sym a.2 ∙ ap (unit_in w) (got_what (sym a.1 ∙ b.1)) ∙ b.2
+
+pub accepts : (bytes : List ℕ) (start : ℕ) (before : Tables) (result : Result Outline ReadFault) (after : Tables) → result ≡ answered (read_unit before bytes start) → after ≡ left_by before (read_unit before bytes start) → AcceptsExactly bytes start before result after
+accepts bytes start before result after told left = record {
+  only = only bytes start before result after told left;
+  all = all bytes start before result after told left;
+  one = one;
+  refused = refuses bytes start before result after told left;
+  enough = enough bytes start before result after told left;
+}
