@@ -1,5 +1,5 @@
 -- What reading answers is exactly what the notation allows.
-use Rattle.std.proofs.Common.{◌≡◌, ℕ, ◌+◌, ◌-◌, ◌≤◌, Bool, false, List, [], map, length, take, drop, replicate, get_or, pos, Ok, Err, Result, sym, refl, ap, ◌∙◌, subst, subst₂, arith}
+use Rattle.std.proofs.Common.{◌≡◌, ℕ, ◌-◌, List, length, replicate, pos, Ok, Err, Result, sym, refl, ap, ◌∙◌, subst, arith}
 use Rattle.std.proofs.lemmas.List.{take_all, get_or_past, length-replicate}
 use Rattle.terms.specs.declared.row.Row.TheVariants.{Constant}
 use Rattle.jcode.specs.declared.reader.Outline.{Outline}
@@ -8,23 +8,22 @@ use Rattle.jcode.specs.declared.refusal.Refusal.TheVariants.{Table}
 use Rattle.jcode.specs.declared.statement.Statement.TheVariants as stands
 use Rattle.jcode.specs.declared.variable.Domain.TheVariants as domain
 use Rattle.jcode.specs.declared.variable.Variable.{Variable}
-use Rattle.jcode.specs.Bytes.{separator, passes, slice}
-use Rattle.jcode.specs.ReadTerms.{UnitRow}
-use Rattle.jcode.specs.Language.{between, Spelt}
-use Rattle.jcode.specs.Spelling.{Spells, Sizes, Within, limits}
-use Rattle.jcode.specs.Pieces.{Answer, got, refused, refuse}
-use Rattle.jcode.specs.ReadUnits.{Located, Tables, tables, rows_all, read_unit, outline, answered, left_by, written}
+use Rattle.jcode.specs.Bytes.{separator, slice}
+use Rattle.jcode.specs.Spelling.{Spells, Within, limits}
+use Rattle.jcode.specs.Pieces.{Answer, got, refused}
+use Rattle.jcode.specs.ReadUnits.{Located, Tables, tables, read_unit, outline, answered, left_by}
+use Rattle.jcode.specs.Outgrown.{IsOutgrown}
 use Rattle.jcode.specs.Units.{JUnit, declared_in, retold, unit_in}
-use Rattle.jcode.specs.Notation.{sizes_of, unit_told, IsUnit, TellsUnit, AreShort, AcceptsExactly}
+use Rattle.jcode.specs.Notation.{sizes_of, unit_told, IsUnit, TellsUnit, AcceptsExactly}
+use Rattle.jcode.specs.Rows.{UnitRow}
 use Rattle.jcode.proofs.Outcomes.{got_what}
 use Rattle.jcode.proofs.Names.{length_map}
-use Rattle.jcode.proofs.Places.{byte}
-use Rattle.jcode.proofs.Agreement.{Stops, Stands, Finds, found, short, Agrees}
+use Rattle.jcode.proofs.Agreement.{Finds, found, short}
 use Rattle.jcode.proofs.Fronts.{passes_byte}
 use Rattle.jcode.proofs.Saying.{all_rows_told}
-use Rattle.jcode.proofs.Whole.{units, unit_agrees, unit_ends}
+use Rattle.jcode.proofs.Whole.{unit_agrees, unit_ends}
 use Rattle.jcode.proofs.Holding.{held_whole}
-use Rattle.jcode.proofs.Blame.{unit_blames}
+use Rattle.jcode.proofs.Outgrowing.{unit_outgrows}
 
 -- what an answer was, by what is told of it
 answered_ok : (a : Answer Located) (o : Outline) → answered a ≡ Ok o → (u : Located) × (j : ℕ) × (a ≡ got u j) × (outline u j ≡ o)
@@ -84,8 +83,8 @@ module _ (bytes : List ℕ) (start : ℕ) (before : Tables) where
             let same : f ≡ record { refusal = Table; place = place } = cc in
             (ap (λ f. f.refusal) same, lacks)
 
-    enough : (place : ℕ) → result ≡ Err (record { refusal = Table; place = place }) → AreShort (sizes_of before)
-    enough place e = unit_blames bytes before start place (answered_err answer _ (sym told ∙ e))
+    outgrown : (place : ℕ) → result ≡ Err (record { refusal = Table; place = place }) → IsOutgrown (sizes_of before) bytes start place
+    outgrown place e = unit_outgrows before bytes start place (answered_err answer _ (sym told ∙ e))
 
 abbrev variable : Variable
 variable = record { name = record { start = 0; length = 0 }; domain = domain.Integer }
@@ -135,5 +134,5 @@ accepts bytes start before result after told left = record {
   all = all bytes start before result after told left;
   one = one;
   refused = refuses bytes start before result after told left;
-  enough = enough bytes start before result after told left;
+  outgrown = outgrown bytes start before result after told left;
 }

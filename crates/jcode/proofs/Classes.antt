@@ -1,11 +1,11 @@
 -- Classes of bytes that keep apart, and the first byte of a piece.
-use Rattle.std.proofs.Common.{◌≡◌, ℕ, ◌+◌, ◌-◌, ◌<◌, ◌≤◌, Bool, true, false, leb, eqb, ◌&&◌, ◌||◌, List, [], ◌∷◌, length, get_or, sym, refl, ap, ◌∙◌, subst, ⊎_elim, arith}
-use Rattle.std.proofs.lemmas.Bool.{cases_lt, and_parts, and_left, or_cases, or_from, or_left, leb-true, lt-leb, eq-eqb, eqb-true, ne_eqb, both_ways}
+use Rattle.std.proofs.Common.{◌≡◌, ℕ, ◌+◌, ◌-◌, ◌<◌, ◌≤◌, Bool, true, false, leb, eqb, ◌&&◌, ◌||◌, List, [], ◌∷◌, length, get_or, sym, refl, ap, ◌∙◌, ⊎_elim, arith}
+use Rattle.std.proofs.lemmas.Bool.{cases_lt, and_parts, and_left, or_cases, or_from, leb-true, lt-leb, eq-eqb, eqb-true, ne_eqb, both_ways}
 use Rattle.std.specs.List.{list_all}
 use Rattle.std.proofs.lemmas.List.{length-append, nil_from_length}
 use Rattle.jcode.specs.Bytes.{separator, letter, digit, name_byte}
-use Rattle.jcode.specs.Language.{Language, ◌⊙◌, Just, White, Gap, MayGap, between, Spelt}
-use Rattle.jcode.proofs.Places.{byte, byte_between, length_between, parts}
+use Rattle.jcode.specs.Language.{Language, Just, White, Gap, MayGap, between, Spelt}
+use Rattle.jcode.proofs.Places.{byte, byte_between, length_between}
 use Rattle.jcode.proofs.Agreement.{Stops}
 use Rattle.jcode.proofs.Marks.{white_passes}
 

@@ -1,5 +1,5 @@
 -- Declarations: reading and spelling agree.
-use Rattle.std.proofs.Common.{◌≡◌, ℕ, zero, suc, ◌+◌, ◌-◌, ◌<◌, ◌≤◌, ◌≤ℤ◌, min, Bool, true, false, cond, not, ◌||◌, ltb, eqb, List, [], ◌∷◌, ◌++◌, map, length, get_or, ℤ, Some, None, Option, sym, refl, ap, ◌∙◌, subst, inl, inr, ⊎_elim, arith}
+use Rattle.std.proofs.Common.{◌≡◌, ℕ, ◌<◌, ◌≤◌, ◌≤ℤ◌, min, true, false, cond, ◌||◌, eqb, List, [], ◌∷◌, ◌++◌, map, length, get_or, ℤ, Some, None, Option, sym, refl, ap, ◌∙◌, subst, arith}
 use Rattle.std.specs.Prelude.{codes, int_le}
 use Rattle.std.specs.List.{IsDistinct, list_any}
 use Rattle.std.proofs.lemmas.Bool.{cond-true, cond-false, lt-ltb, or_parts}
@@ -8,32 +8,31 @@ use Rattle.terms.specs.Words.{same_word}
 use Rattle.jcode.specs.declared.declaration_reader.DomainWord.{DomainWord}
 use Rattle.jcode.specs.declared.declaration_reader.DomainWord.TheVariants as word
 use Rattle.jcode.specs.declared.refusal.Refusal.{Refusal}
-use Rattle.jcode.specs.declared.refusal.Refusal.TheVariants.{Table, Number as BadNumber, Name as Unknown}
-use Rattle.jcode.specs.declared.span.Span.{Span}
+use Rattle.jcode.specs.declared.refusal.Refusal.TheVariants.{Number as BadNumber, Name as Unknown}
 use Rattle.jcode.specs.declared.variable.Domain.{Domain}
 use Rattle.jcode.specs.declared.variable.Domain.TheVariants.{Integer, Boolean, Subrange}
 use Rattle.jcode.specs.declared.variable.Variable.{Variable}
 use Rattle.jcode.specs.Bytes.{separator, letter, digit, name_byte, slice, stands}
-use Rattle.jcode.specs.Language.{Language, ◌⊙◌, Just, Gap, MayGap, End, IsName, Name, Number, between, Spelt}
-use Rattle.jcode.specs.Spelling.{Sizes, limits, Close, InDomain, HasDomain, Declares, Declarations, names_of}
-use Rattle.jcode.specs.Pieces.{Answer, got, Reader, refuse, and_then, ◌▷◌, ◌◁◌, ◌⊗◌, ◌giving◌, past_gap, read_gap, read_word, read_name, read_number}
+use Rattle.jcode.specs.Language.{Language, ◌⊙◌, Just, Gap, MayGap, End, Name, Number, Spelt}
+use Rattle.jcode.specs.Spelling.{Sizes, Close, InDomain, HasDomain, Declares, Declarations, names_of}
+use Rattle.jcode.specs.Pieces.{got, refuse, ◌▷◌, read_gap, read_word, read_name, read_number}
 use Rattle.jcode.specs.Scopes.{name_in}
 use Rattle.jcode.specs.Tables.{full_by}
 use Rattle.jcode.specs.ReadUnits.{domain_word, domain_of, read_high, read_bounds, by_domain, read_domain, read_colon, read_class, read_closing, read_declared, colon_after, opens_declaration, read_fresh, read_declaration, read_entry, read_declarations}
 use Rattle.jcode.specs.Units.{Declared, declared_in}
 use Rattle.jcode.proofs.Outcomes.{refused_got, got_what, got_next, then_got, then_step, when_got, unless_got}
 use Rattle.jcode.proofs.Places.{byte, joins, parts, spelt_as, spelt_none, just_next}
-use Rattle.jcode.proofs.Agreement.{Production, plain, mark, kept, Stops, Anywhere, Stands, Finds, found, short, Agrees, surely, finds_then, after_agrees, before_agrees, pair_agrees, image_agrees, kept_agrees, renamed, same_agrees}
-use Rattle.jcode.proofs.Repetition.{AllNeed, Repeats, many_agrees, many_stops}
+use Rattle.jcode.proofs.Agreement.{Production, plain, mark, kept, Stops, Anywhere, found, Agrees, surely, finds_then, after_agrees, before_agrees, pair_agrees, image_agrees, kept_agrees, renamed, same_agrees}
+use Rattle.jcode.proofs.Repetition.{Repeats, many_agrees, many_stops}
 use Rattle.jcode.proofs.Fronts.{stands_byte}
 use Rattle.jcode.proofs.Marks.{gap_agrees, may_gap_agrees, mark_agrees, end_agrees, past_gap_is}
 use Rattle.jcode.proofs.Classes.{begins, begins_with, white_begins, may_gap_stops, letter_no_separator, separator_no_name, separator_no_digit}
 use Rattle.jcode.proofs.Words.{word_first, word_agrees, name_agrees, keyword_agrees}
-use Rattle.jcode.proofs.Numbers.{byte_stands, number_agrees}
+use Rattle.jcode.proofs.Numbers.{number_agrees}
 use Rattle.jcode.proofs.Rows.{first_is, number_stops}
 use Rattle.jcode.proofs.Terms.{close_agrees, close_stops}
 use Rattle.jcode.proofs.Grouping.{regroup, ungroup, under, regroup3, ungroup3, regroup4, ungroup4}
-use Rattle.jcode.proofs.Distinct.{same_word_laws, Fresh, AllFresh, fresh_there, fresh_back}
+use Rattle.jcode.proofs.Distinct.{same_word_laws, Fresh, fresh_there, fresh_back}
 
 module _ (tables : Sizes) (bytes : List ℕ) where
   abbrev Sep : ℕ → Type 0
@@ -236,7 +235,7 @@ module _ (tables : Sizes) (bytes : List ℕ) where
       (pair_agrees tables bytes (λ _. plain HasDomain) (fresh_agrees seen) (λ s _. declared_agrees) (λ n _ d i j s stop. no_name_follows d s))
       (λ p. refl) (λ t p n. n.0) (λ t p n. (n, tt)))
 
-  entry_agrees : (r : Refusal) (seen : List Variable) → Agrees tables bytes (read_entry r false seen) told (record { spells = Declares; needs = λ t. NeedsNew t (map told seen) }) Sep
+  pub entry_agrees : (r : Refusal) (seen : List Variable) → Agrees tables bytes (read_entry r false seen) told (record { spells = Declares; needs = λ t. NeedsNew t (map told seen) }) Sep
   unfolding read_entry
   entry_agrees r seen = declaration_agrees seen
 

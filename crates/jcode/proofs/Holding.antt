@@ -1,13 +1,12 @@
 -- What the tables hold of a unit that was read.
-use Rattle.std.proofs.Common.{◌≡◌, ℕ, ◌+◌, List, [], ◌∷◌, ◌++◌, map, length, take, drop, sym, refl, ap, ◌∙◌, subst, arith, append_assoc, append-nil}
+use Rattle.std.proofs.Common.{◌≡◌, ℕ, ◌+◌, List, [], ◌∷◌, ◌++◌, map, length, take, drop, sym, refl, ap, ◌∙◌, arith, append_assoc}
 use Rattle.std.proofs.lemmas.List.{take_at, drop_at, length-append}
 use Rattle.jcode.specs.declared.span.Span.{Span}
-use Rattle.jcode.specs.declared.statement.Statement.{Statement}
-use Rattle.jcode.specs.ReadTerms.{UnitRow}
-use Rattle.jcode.specs.Sentences.{Sentence, Hang, Break, Require, Proclaim, New, Assign, Split, When, Branch, Join, rows_of, term_at, laid}
-use Rattle.jcode.specs.ReadUnits.{Located, Tables, rows_all, laid_all, written, outline}
+use Rattle.jcode.specs.Sentences.{Sentence, Hang, Break, Require, Proclaim, New, Assign, Split, When, Branch, Join, rows_of, term_at, laid, rows_all}
+use Rattle.jcode.specs.ReadUnits.{Located, Tables, laid_all, written, outline}
 use Rattle.jcode.specs.Units.{unit_in, term_in, sentence_in}
 use Rattle.jcode.specs.Notation.{unit_told}
+use Rattle.jcode.specs.Rows.{UnitRow}
 use Rattle.jcode.proofs.Fillings.{take_over}
 use Rattle.jcode.proofs.Listings.{listed_is}
 use Rattle.jcode.proofs.Statements.{length_laid}

@@ -10,11 +10,12 @@ use Rattle.jcode.specs.declared.statement.Statement.TheVariants as stands
 use Rattle.jcode.specs.declared.statement.Term.{Term}
 use Rattle.jcode.specs.declared.table.Table.{Table}
 use Rattle.jcode.specs.Pieces.{got, Reader, and_then, Reads}
-use Rattle.jcode.specs.Scopes.{Scope, listed_in, scope_of}
+use Rattle.jcode.specs.Scopes.{Scope, listed_in, scope_of, listing}
 use Rattle.jcode.specs.Tables.{put}
-use Rattle.jcode.specs.ReadTerms.{UnitRow, ReadsRows, held, held_with}
+use Rattle.jcode.specs.ReadTerms.{ReadsRows, held, held_with}
 use Rattle.jcode.specs.Sentences.{Sentence, Assign, rows_of, listing_of, term_at, laid}
-use Rattle.jcode.specs.ReadStatements.{ReadsTerm, Lays, laid_out, read_listing, read_listed, read_expression, listing}
+use Rattle.jcode.specs.ReadStatements.{ReadsTerm, Lays, laid_out, read_listing, read_listed, read_expression}
+use Rattle.jcode.specs.Rows.{UnitRow}
 use Rattle.jcode.proofs.Chains.{off, stopped_with, made_of, refused_of}
 use Rattle.jcode.proofs.Listings.{listed_is}
 use Rattle.jcode.proofs.Stores.{put_append, length_put, rows_read}

@@ -30,5 +30,6 @@ pub mod Saying
 pub mod Declaring
 pub mod Whole
 pub mod Holding
-pub mod Blame
+pub mod Fairness
+pub mod Outgrowing
 pub mod Accepting

@@ -1,21 +1,21 @@
 -- Lists of names, and the names that ASSIGN repeats: reading and spelling agree.
-use Rattle.std.proofs.Common.{◌≡◌, ℕ, zero, suc, ◌+◌, ◌-◌, ◌<◌, ◌≤◌, Bool, true, false, cond, not, eqb, List, [], ◌∷◌, ◌++◌, map, map-id, length, sym, refl, ap, ◌∙◌, subst, inl, inr, ⊎_elim, arith}
+use Rattle.std.proofs.Common.{◌≡◌, ℕ, ◌<◌, ◌≤◌, true, false, cond, eqb, List, [], ◌∷◌, map, map-id, length, sym, refl, ap, ◌∙◌, subst, inr, ⊎_elim, arith}
 use Rattle.std.specs.Prelude.{codes, nat_eq}
 use Rattle.std.specs.List.{IsDistinct, list_any}
 use Rattle.std.proofs.lemmas.Bool.{cond-true, cond-false, not_from_true, not_from_false, eq-eqb, eqb-true}
 use Rattle.std.proofs.lemmas.Cmp.{nat_eq_equiv}
 use Rattle.terms.specs.Words.{same_word}
 use Rattle.jcode.specs.declared.refusal.Refusal.TheVariants.{Limit, Name as Unknown}
-use Rattle.jcode.specs.Bytes.{separator, letter, name_byte, stands}
+use Rattle.jcode.specs.Bytes.{separator, name_byte, stands}
 use Rattle.jcode.specs.Language.{Language, ◌⊙◌, Just, Gap, MayGap, Spelt}
 use Rattle.jcode.specs.Spelling.{Sizes, limits, Variable, Close, Bracketed, MoreNames, Names, Listing}
-use Rattle.jcode.specs.Pieces.{Answer, got, refuse, and_then, ◌▷◌, ◌giving◌, past_gap, read_mark, read_gap, read_name}
+use Rattle.jcode.specs.Pieces.{Answer, got, refuse, and_then, ◌▷◌, ◌giving◌, read_gap, read_name}
 use Rattle.jcode.specs.Scopes.{Scope, member}
 use Rattle.jcode.specs.ReadTerms.{read_variable, read_close}
 use Rattle.jcode.specs.ReadStatements.{goes_on, read_unseen, read_more, read_names, read_listing, read_single, read_again, read_repeated, read_target}
 use Rattle.jcode.proofs.Outcomes.{refused_got, got_what, got_next, then_got, when_got, unless_got, either_got}
 use Rattle.jcode.proofs.Places.{byte, joins, parts, spelt_as, just_next}
-use Rattle.jcode.proofs.Agreement.{Production, plain, mark, kept, Stops, Anywhere, Finds, found, short, Stands, Agrees, stands_as, surely, finds_as, finds_then, after_agrees, before_agrees, pair_agrees, image_agrees, kept_agrees, spelling, renamed}
+use Rattle.jcode.proofs.Agreement.{plain, mark, kept, Stops, Anywhere, Finds, found, short, Stands, Agrees, stands_as, surely, finds_then, after_agrees, before_agrees, pair_agrees, image_agrees, kept_agrees, spelling, renamed}
 use Rattle.jcode.proofs.Repetition.{AllNeed, Repeats, many_sound, many_complete}
 use Rattle.jcode.proofs.Fronts.{stands_byte}
 use Rattle.jcode.proofs.Marks.{gap_agrees, may_gap_agrees, mark_agrees, past_gap_is}
@@ -24,7 +24,7 @@ use Rattle.jcode.proofs.Variables.{variable_agrees}
 use Rattle.jcode.proofs.Numbers.{byte_spelt, byte_stands}
 use Rattle.jcode.proofs.Rows.{variable_begins, variable_stops}
 use Rattle.jcode.proofs.Terms.{close_agrees, close_stops}
-use Rattle.jcode.proofs.Distinct.{Fresh, AllFresh, fresh_there, fresh_back}
+use Rattle.jcode.proofs.Distinct.{Fresh, fresh_there, fresh_back}
 
 -- ASSIGN's variable, in brackets twice
 abbrev pub Target : Scope → ℕ → Language

@@ -1,19 +1,19 @@
 -- Marks, gaps and ends: reading and spelling agree.
-use Rattle.std.proofs.Common.{◌≡◌, ℕ, ◌+◌, ◌-◌, ◌<◌, ◌≤◌, Bool, true, false, cond, eqb, List, [], ◌∷◌, ◌++◌, length, take, drop, get_or, Some, None, Option, unwrap_or, sym, refl, ap, ◌∙◌, subst, inl, inr, ⊎_elim, arith, length-drop, length-take, length-append}
+use Rattle.std.proofs.Common.{◌≡◌, ℕ, ◌+◌, ◌-◌, ◌<◌, ◌≤◌, Bool, true, false, eqb, List, [], ◌∷◌, ◌++◌, length, take, drop, get_or, Some, None, Option, unwrap_or, sym, refl, ap, ◌∙◌, subst, inl, inr, ⊎_elim, arith, length-take, length-append}
 use Rattle.std.specs.Bool.{then_some}
 use Rattle.std.specs.List.{list_all}
-use Rattle.std.proofs.lemmas.Bool.{cases_Bool, cond-true, and_parts, and_from, eqb-true, eq-eqb, false≢true, cases_eq}
-use Rattle.std.proofs.lemmas.List.{take_more, take_all, get_or_at, nil_from_length}
+use Rattle.std.proofs.lemmas.Bool.{cond-true, and_parts, and_from, eqb-true, eq-eqb, false≢true}
+use Rattle.std.proofs.lemmas.List.{take_more, take_all, get_or_at}
 use Rattle.std.proofs.lemmas.List.Folds.{list_all-append}
 use Rattle.terms.specs.Words.{same_word}
 use Rattle.jcode.specs.Bytes.{separator, slice, stands, run_at}
-use Rattle.jcode.specs.Language.{Language, ◌⊙◌, Just, White, Gap, End, MayGap, between, Spelt}
+use Rattle.jcode.specs.Language.{Just, White, Gap, End, MayGap, between, Spelt}
 use Rattle.jcode.specs.Spelling.{Sizes}
-use Rattle.jcode.specs.Pieces.{Answer, got, read_mark, ends_in, white, passed, read_white, read_gap, read_end, past_gap, read_may_gap}
+use Rattle.jcode.specs.Pieces.{got, read_mark, ends_in, white, passed, read_white, read_gap, read_end, past_gap, read_may_gap}
 use Rattle.jcode.proofs.Outcomes.{refused_got, got_next, when_got}
-use Rattle.jcode.proofs.Places.{byte, byte_between, length_between, spelt_as, spelt_none, spelt_front}
+use Rattle.jcode.proofs.Places.{length_between, spelt_as, spelt_none, spelt_front}
 use Rattle.jcode.proofs.Agreement.{mark, Stops, Anywhere, found, Agrees}
-use Rattle.jcode.proofs.Fronts.{stands_byte, front_passes, front_spelt, front_stops, front_length, front_next, front_is}
+use Rattle.jcode.proofs.Fronts.{stands_byte, front_passes, front_spelt, front_stops, front_next, front_is}
 
 -- words are the same where the test says so
 pub same_words : (a b : List ℕ) → same_word a b ≡ true → a ≡ b

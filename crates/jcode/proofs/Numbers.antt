@@ -1,21 +1,20 @@
 -- Numbers and labels: reading and spelling agree.
-use Rattle.std.proofs.Common.{◌≡◌, ℕ, zero, suc, ◌+◌, ◌-◌, ◌^◌, ◌<◌, ◌≤◌, ◌≤ℤ◌, Bool, true, false, cond, eqb, ltb, leb, not, ◌&&◌, List, [], ◌∷◌, ◌++◌, length, take, drop, get_or, ℤ, pos, negsuc, neg_ℤ, Some, None, Option, sym, refl, ap, ◌∙◌, subst, ⊎_elim, arith, rules, length-drop}
+use Rattle.std.proofs.Common.{◌≡◌, ℕ, zero, suc, ◌+◌, ◌^◌, ◌<◌, ◌≤◌, Bool, true, false, eqb, ltb, leb, not, ◌&&◌, List, [], ◌∷◌, ◌++◌, length, take, drop, get_or, ℤ, pos, negsuc, neg_ℤ, sym, refl, ap, ◌∙◌, subst, ⊎_elim, arith, rules, length-drop}
 use Rattle.std.specs.Prelude.{decimal}
 use Rattle.std.specs.Bool.{then_some}
-use Rattle.std.specs.Fmt.{signed_decimal}
 use Rattle.std.specs.List.{list_all}
-use Rattle.std.proofs.lemmas.Bool.{cases_lt, cases_Bool, cond-true, cond-false, and_parts, and_from, and_left, and_right, not-true, not_from_false, eq-eqb, ne_eqb, eqb-true, eqb-false, le-leb, leb-true, le-ltb, ltb-false, lt-ltb, both_ways}
+use Rattle.std.proofs.lemmas.Bool.{cases_lt, cond-true, cond-false, and_parts, and_from, and_left, and_right, not-true, not_from_false, eq-eqb, ne_eqb, eqb-true, eqb-false, le-leb, leb-true, le-ltb, lt-ltb, both_ways}
 use Rattle.std.proofs.lemmas.Fmt.{decimal_digit, decimal_nonempty, first_decimal, digits_decimal, digits_value-decimal, decimal-digits_value}
 use Rattle.std.proofs.lemmas.Int.{ints}
 use Rattle.std.proofs.lemmas.List.{drop_more, get_or_past, length-take-le}
 use Rattle.std.proofs.lemmas.Str.Parse.{IsNumeralModel, numerals_by_fold}
 use Rattle.jcode.specs.Bytes.{digit, slice, stands, run_at}
-use Rattle.jcode.specs.Language.{Language, ◌⊙◌, Just, Number, Label, between, Spelt}
+use Rattle.jcode.specs.Language.{Language, ◌⊙◌, Just, Number, Label, Spelt}
 use Rattle.jcode.specs.Spelling.{Sizes}
-use Rattle.jcode.specs.Pieces.{Answer, got, refuse, and_then, value_after, is_proper, proper, numbered, read_decimal, greatest, read_number, read_label}
+use Rattle.jcode.specs.Pieces.{got, and_then, value_after, is_proper, proper, numbered, read_decimal, greatest, read_number, read_label}
 use Rattle.jcode.proofs.Outcomes.{refused_got, got_what, got_next, then_got, unless_got, either_got}
 use Rattle.jcode.proofs.Places.{byte, length_between, joins, parts, spelt_as, spelt_front}
-use Rattle.jcode.proofs.Agreement.{plain, Stops, Finds, found, Agrees, finds_then}
+use Rattle.jcode.proofs.Agreement.{plain, Stops, Finds, found, Agrees}
 use Rattle.jcode.proofs.Fronts.{stands_byte, run, front_passes, front_spelt, front_length, front_next, front_is}
 use Rattle.jcode.proofs.Classes.{begins, begins_with, digit_least}
 

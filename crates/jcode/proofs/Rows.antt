@@ -1,8 +1,8 @@
 -- The rows that terms begin with: reading and spelling agree.
-use Rattle.std.proofs.Common.{◌≡◌, ℕ, ◌+◌, ◌<◌, ◌≤◌, Bool, true, false, cond, leb, eqb, ◌&&◌, ◌||◌, ◌⊎◌, List, [], ◌∷◌, ◌++◌, length, get_or, ℤ, pos, negsuc, Some, None, Option, sym, refl, ap, ◌∙◌, subst, inl, inr, ⊎_elim, arith, append-nil}
+use Rattle.std.proofs.Common.{◌≡◌, ℕ, ◌+◌, ◌≤◌, Bool, true, false, cond, leb, eqb, ◌&&◌, ◌⊎◌, List, [], ◌∷◌, ◌++◌, length, get_or, ℤ, pos, negsuc, Some, None, Option, sym, refl, ap, ◌∙◌, subst, inl, inr, ⊎_elim, arith, append-nil}
 use Rattle.std.specs.Prelude.{codes}
 use Rattle.std.specs.List.{IsDistinct}
-use Rattle.std.proofs.lemmas.Bool.{cases_Bool, cond-true, cond-false, and_parts, or_parts, ne_eqb, leb-true}
+use Rattle.std.proofs.lemmas.Bool.{cases_Bool, cond-true, cond-false, and_parts, or_parts, leb-true}
 use Rattle.std.proofs.lemmas.Int.{ints}
 use Rattle.terms.specs.declared.operator.Operator.{Operator}
 use Rattle.terms.specs.declared.operator.Operator.TheVariants.{Addi}
@@ -18,19 +18,20 @@ use Rattle.jcode.specs.declared.span.Span.{Span}
 use Rattle.jcode.specs.declared.term_reader.Head.{Head}
 use Rattle.jcode.specs.declared.term_reader.Head.TheVariants.{Constant as ConstantHead, Defined, New as NewHead, Operator as OperatorHead}
 use Rattle.jcode.specs.Bytes.{separator, letter, digit, name_byte, slice, stands, is_word}
-use Rattle.jcode.specs.Language.{Language, ◌⊙◌, Just, Gap, IsName, Name, Number, between, Spelt}
+use Rattle.jcode.specs.Language.{Language, ◌⊙◌, Just, Gap, IsName, Number, between, Spelt}
 use Rattle.jcode.specs.Spelling.{Sizes, Variable, Listed, Mention, Leader}
 use Rattle.jcode.specs.Pieces.{Answer, got, Reader, refuse, and_then, ◌▷◌, ◌giving◌, read_gap, read_name, read_number}
 use Rattle.jcode.specs.Scopes.{Scope}
-use Rattle.jcode.specs.ReadTerms.{UnitRow, operator_head, head_of, known, read_variable, read_listed, mention, read_defined, by_head, by_head_found, read_row}
-use Rattle.jcode.proofs.Outcomes.{refused_got, got_what, got_next, then_got, either_got}
+use Rattle.jcode.specs.ReadTerms.{operator_head, head_of, known, read_listed, mention, read_defined, by_head_found, read_row}
+use Rattle.jcode.specs.Rows.{UnitRow}
+use Rattle.jcode.proofs.Outcomes.{got_what, got_next, then_got, either_got}
 use Rattle.jcode.proofs.Places.{byte, joins, parts, spelt_as, spelt_none, just_next, length_between}
-use Rattle.jcode.proofs.Agreement.{Production, plain, image, Stops, Stands, Finds, found, Agrees, Apart, stands_as, finds_then, after_agrees, image_agrees, weaken, renamed, nothing_agrees}
+use Rattle.jcode.proofs.Agreement.{plain, Stops, Finds, found, Agrees, finds_then, after_agrees, image_agrees, weaken, renamed, nothing_agrees}
 use Rattle.jcode.proofs.Fronts.{stands_byte}
 use Rattle.jcode.proofs.Marks.{same_words, gap_agrees}
 use Rattle.jcode.proofs.Classes.{digit_least, large_no_separator, letter_no_separator, head_byte, begins, begins_with}
 use Rattle.jcode.proofs.Words.{word_first, name_agrees}
-use Rattle.jcode.proofs.Variables.{known_spelt, known_found, variable_agrees, listed_agrees}
+use Rattle.jcode.proofs.Variables.{known_spelt, known_found, listed_agrees}
 use Rattle.jcode.proofs.Numbers.{byte_spelt, byte_stands, decimal_first, number_agrees}
 
 -- the word of what is found

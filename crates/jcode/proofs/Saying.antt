@@ -1,12 +1,11 @@
 -- Statements up to END: reading and spelling agree.
-use Rattle.std.proofs.Common.{◌≡◌, ℕ, zero, suc, ◌+◌, ◌-◌, ◌<◌, ◌≤◌, min, Bool, true, false, cond, not, ltb, eqb, List, [], ◌∷◌, ◌++◌, map, length, get_or, Some, None, Option, sym, refl, ap, ◌∙◌, subst, inr, arith}
+use Rattle.std.proofs.Common.{◌≡◌, ℕ, ◌+◌, ◌-◌, ◌<◌, ◌≤◌, min, Bool, true, false, eqb, List, [], ◌∷◌, ◌++◌, map, length, get_or, Some, None, Option, sym, refl, ap, ◌∙◌, subst, inr, arith}
 use Rattle.std.specs.Prelude.{codes}
 use Rattle.std.specs.List.{IsDistinct}
 use Rattle.std.proofs.lemmas.Bool.{cond-true, lt-ltb, not_from_true, not_from_false, ne_eqb, both_ways}
 use Rattle.std.proofs.lemmas.List.{length-append}
 use Rattle.terms.specs.Words.{same_word}
 use Rattle.jcode.specs.declared.refusal.Refusal.{Refusal}
-use Rattle.jcode.specs.declared.refusal.Refusal.TheVariants.{Table, Missing}
 use Rattle.jcode.specs.declared.span.Span.{Span}
 use Rattle.jcode.specs.declared.statement_reader.Verb.{Verb}
 use Rattle.jcode.specs.declared.statement_reader.Verb.TheVariants as verb
@@ -15,18 +14,18 @@ use Rattle.jcode.specs.Language.{Language, ◌⊙◌, Just, Gap, MayGap, End, La
 use Rattle.jcode.specs.Spelling.{Sizes, limits, Term, Says, Statements}
 use Rattle.jcode.specs.Pieces.{Answer, got, refuse, and_then, past_gap, read_end, read_word, read_keyword}
 use Rattle.jcode.specs.Scopes.{Scope}
-use Rattle.jcode.specs.ReadTerms.{UnitRow}
 use Rattle.jcode.specs.Tables.{full_by}
-use Rattle.jcode.specs.Sentences.{Sentence, Hang, Break, Require, Proclaim, New, Assign, Split, When, Branch, Join, rows_of, verb_word, verbs, verb_of}
+use Rattle.jcode.specs.Sentences.{Sentence, Hang, Break, Require, Proclaim, New, Assign, Split, When, Branch, Join, rows_of, verb_word, verbs, verb_of, rows_all}
 use Rattle.jcode.specs.ReadStatements.{by_verb}
-use Rattle.jcode.specs.ReadUnits.{is_word as is_this, goes_on, colon_after, opens_declaration, by_found, read_sentence, rows_all, read_finish, read_statements}
+use Rattle.jcode.specs.ReadUnits.{is_word as is_this, goes_on, colon_after, opens_declaration, by_found, read_sentence, read_finish, read_statements}
 use Rattle.jcode.specs.Units.{retold}
+use Rattle.jcode.specs.Rows.{UnitRow}
 use Rattle.jcode.proofs.Outcomes.{refused_got, got_what, got_next, then_got, then_step}
 use Rattle.jcode.proofs.Places.{byte, joins, parts, spelt_as}
-use Rattle.jcode.proofs.Agreement.{Production, mark, Stops, Finds, found, short, Agrees, surely, finds_then, after_agrees, renamed}
+use Rattle.jcode.proofs.Agreement.{Production, mark, Stops, Finds, Agrees, surely, after_agrees, renamed}
 use Rattle.jcode.proofs.Repetition.{AllNeed, Repeats, many_agrees, repeated_ends}
 use Rattle.jcode.proofs.Fronts.{stands_byte}
-use Rattle.jcode.proofs.Marks.{end_agrees, same_refl, past_gap_is, end_no_gap, white_whole}
+use Rattle.jcode.proofs.Marks.{end_agrees, past_gap_is, end_no_gap, white_whole}
 use Rattle.jcode.proofs.Classes.{begins, begins_with, white_begins, may_gap_stops, letter_no_separator, separator_no_name}
 use Rattle.jcode.proofs.Words.{word_first, word_agrees, keyword_agrees}
 use Rattle.jcode.proofs.Rows.{first_is}
@@ -60,7 +59,7 @@ not_end : (v : Verb) → same_word (verb_word v) (codes "END") ≡ false
 not_end verb.Break = refl
 not_end v = refl
 
-rows_told : {S T : Type 0} (f : S → T) (s : Sentence S) → rows_of (retold f s) ≡ rows_of s
+pub rows_told : {S T : Type 0} (f : S → T) (s : Sentence S) → rows_of (retold f s) ≡ rows_of s
 rows_told f Hang = refl
 rows_told f s = refl
 
@@ -202,7 +201,7 @@ module _ (tables : Sizes) (bytes : List ℕ) (sc : Scope) where
       by_found_got i j None e = absurd (refused_got e)
       by_found_got i j (Some v) e = (v, refl, e)
 
-      sentence_agrees : IsDistinct same_word sc.names → Agrees tables bytes (read_sentence sc tables.rows r false used) told (record { spells = Says sc; needs = λ t s. length (rows_of s) ≤ t.rows - used }) Sep
+      pub sentence_agrees : IsDistinct same_word sc.names → Agrees tables bytes (read_sentence sc tables.rows r false used) told (record { spells = Says sc; needs = λ t s. length (rows_of s) ≤ t.rows - used }) Sep
       unfolding read_sentence
       sentence_agrees once = record {
         sound = λ i s j l e.

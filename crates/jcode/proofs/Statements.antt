@@ -9,10 +9,11 @@ use Rattle.jcode.specs.declared.table.Table.{Table}
 use Rattle.jcode.specs.Pieces.{Answer, got, refused, Reader, and_then, ◌giving◌, Reads}
 use Rattle.jcode.specs.Scopes.{Scope}
 use Rattle.jcode.specs.Tables.{put, full_by}
-use Rattle.jcode.specs.ReadTerms.{UnitRow, held, held_with, leaves}
-use Rattle.jcode.specs.Sentences.{Sentence, rows_of, laid}
+use Rattle.jcode.specs.ReadTerms.{held, held_with, leaves}
+use Rattle.jcode.specs.Sentences.{Sentence, rows_of, laid, rows_all}
 use Rattle.jcode.specs.ReadStatements.{Lays}
-use Rattle.jcode.specs.ReadUnits.{goes_on, read_sentence, laid_in, rows_all, laid_all, read_finish, read_statements}
+use Rattle.jcode.specs.ReadUnits.{goes_on, read_sentence, laid_in, laid_all, read_finish, read_statements}
+use Rattle.jcode.specs.Rows.{UnitRow}
 use Rattle.jcode.proofs.Chains.{off, told_in, leaves_of, made_of, refused_of, assoc}
 use Rattle.jcode.proofs.Repeats.{step_refused, step_read, all_done}
 use Rattle.jcode.proofs.Stores.{put_append, length_put}

@@ -8,7 +8,8 @@ use Rattle.jcode.specs.Pieces.{Answer, got, refused, Reader, and_then, Reads}
 use Rattle.jcode.specs.Scopes.{Scope}
 use Rattle.jcode.specs.Tables.{put}
 use Rattle.jcode.proofs.Chains.{on, off, read_in, refused_in, told_in, leaves_of, made_of}
-use Rattle.jcode.specs.ReadTerms.{UnitRow, ReadsRows, stored, held, held_with, leaves, read_lead, read_operands, read_begin, read_close, read_term, operands_after}
+use Rattle.jcode.specs.ReadTerms.{ReadsRows, stored, held, held_with, leaves, read_lead, read_operands, read_begin, read_close, read_term}
+use Rattle.jcode.specs.Rows.{UnitRow, operands_after}
 
 -- records one after another
 pub put_append : {X : Type 0} (xs : List X) (i : ℕ) (ys zs : List X) → put xs i (ys ++ zs) ≡ put (put xs i ys) (i + length ys) zs

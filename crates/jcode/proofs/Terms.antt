@@ -1,5 +1,5 @@
 -- Terms: reading and spelling agree.
-use Rattle.std.proofs.Common.{◌≡◌, ℕ, zero, suc, ◌+◌, ◌-◌, ◌<◌, ◌≤◌, Bool, true, false, cond, leb, eqb, List, [], ◌∷◌, ◌++◌, length, sym, refl, ap, ◌∙◌, subst, ⊎_elim, arith, append_assoc}
+use Rattle.std.proofs.Common.{◌≡◌, ℕ, zero, suc, ◌+◌, ◌-◌, ◌<◌, ◌≤◌, Bool, true, false, cond, leb, eqb, List, [], ◌∷◌, ◌++◌, length, sym, refl, ap, ◌∙◌, subst, ⊎_elim, arith}
 use Rattle.std.specs.Prelude.{codes}
 use Rattle.std.specs.List.{IsDistinct}
 use Rattle.std.proofs.lemmas.Bool.{cases_lt, cond-true, cond-false, le-leb, lt-leb, leb-false, ne_eqb}
@@ -8,14 +8,15 @@ use Rattle.terms.specs.Words.{same_word}
 use Rattle.jcode.specs.declared.refusal.Refusal.TheVariants.{Limit, Table}
 use Rattle.jcode.specs.Bytes.{separator}
 use Rattle.jcode.specs.Language.{Language, ◌⊙◌, Just, Gap, MayGap, Spelt}
-use Rattle.jcode.specs.Spelling.{Sizes, limits, Leader, Close, Lead, Operands, Term}
-use Rattle.jcode.specs.Pieces.{Answer, got, refused, Reader, refuse, and_then, ◌▷◌, ◌◁◌, ◌⊗◌, ◌giving◌, read_mark, read_may_gap}
+use Rattle.jcode.specs.Spelling.{Sizes, Leader, Close, Lead, Operands, Term}
+use Rattle.jcode.specs.Pieces.{Answer, got, refused, Reader, refuse, and_then, ◌▷◌, read_mark, read_may_gap}
 use Rattle.jcode.specs.Scopes.{Scope}
-use Rattle.jcode.specs.ReadTerms.{UnitRow, read_row, operands_after, read_open, read_begin, read_close, read_lead, read_operands, read_whole, read_term}
+use Rattle.jcode.specs.ReadTerms.{read_row, read_open, read_begin, read_close, read_lead, read_operands, read_term}
+use Rattle.jcode.specs.Rows.{UnitRow, operands_after}
 use Rattle.jcode.proofs.Outcomes.{refused_got, got_what, got_next, then_got, then_step, unless_got}
 use Rattle.jcode.proofs.Grouping.{regroup, ungroup, under}
-use Rattle.jcode.proofs.Places.{byte, length_between, parts, spelt_as, spelt_none}
-use Rattle.jcode.proofs.Agreement.{Production, plain, mark, ahead, behind, both, Stops, Anywhere, Finds, found, short, Agrees, surely, after_agrees, before_agrees, pair_agrees, image_agrees, renamed, same_agrees}
+use Rattle.jcode.proofs.Places.{byte, length_between, parts, spelt_none}
+use Rattle.jcode.proofs.Agreement.{Production, plain, mark, behind, Stops, Anywhere, Finds, found, short, Agrees, surely, after_agrees, before_agrees, pair_agrees, image_agrees, renamed, same_agrees}
 use Rattle.jcode.proofs.Marks.{gap_agrees, may_gap_agrees, mark_agrees}
 use Rattle.jcode.proofs.Classes.{head_byte, begins_with, white_begins, may_gap_stops, separator_no_head}
 use Rattle.jcode.proofs.Rows.{row_agrees, row_stops}
@@ -60,7 +61,7 @@ module _ (tables : Sizes) (bytes : List ℕ) where
   pub close_stops : (p : ℕ → Bool) → ((b : ℕ) → separator b ≡ true → p b ≡ false) → p 41 ≡ false → {i j : ℕ} → Spelt Close bytes i j → Stops p bytes i
   close_stops p off this s = let c = parts s in may_gap_stops bytes p off c.1 (ap p (begins_with bytes 41 [] (omega arith) c.2) ∙ this)
 
-  lead_agrees : (b : Bool) → Agrees tables bytes (read_lead b) (λ u. u) (mark (Lead b)) (Stops separator bytes)
+  pub lead_agrees : (b : Bool) → Agrees tables bytes (read_lead b) (λ u. u) (mark (Lead b)) (Stops separator bytes)
   lead_agrees true = gap_agrees tables bytes
   lead_agrees false = may_gap_agrees tables bytes
 

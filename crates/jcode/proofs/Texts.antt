@@ -1,5 +1,5 @@
 -- Texts: reading and spelling agree.
-use Rattle.std.proofs.Common.{◌≡◌, ℕ, zero, suc, ◌+◌, ◌-◌, ◌<◌, ◌≤◌, Bool, true, false, cond, not, ◌&&◌, ltb, List, [], ◌∷◌, ◌++◌, length, take, drop, get_or, sym, refl, ap, ◌∙◌, subst, ⊎_elim, arith, one-add, length-drop, take-append-drop}
+use Rattle.std.proofs.Common.{◌≡◌, ℕ, zero, suc, ◌+◌, ◌-◌, ◌≤◌, Bool, true, false, cond, not, ◌&&◌, ltb, List, [], ◌∷◌, ◌++◌, length, take, drop, get_or, sym, refl, ap, ◌∙◌, subst, ⊎_elim, arith, one-add, length-drop, take-append-drop}
 use Rattle.std.specs.Prelude.{codes}
 use Rattle.std.specs.List.{list_all, prefix_len, range_with_len}
 use Rattle.std.proofs.lemmas.Bool.{cases_Bool, cond-true, cond-false, and_parts, and_from, and_right, not-true, not_from_false, le-ltb, ltb-false}
@@ -7,7 +7,7 @@ use Rattle.std.proofs.lemmas.List.{get_or-drop, drop-drop, take_at, length-take-
 use Rattle.std.proofs.lemmas.List.Folds.{length-prefix_len}
 use Rattle.terms.specs.Words.{same_word}
 use Rattle.jcode.specs.Bytes.{text_byte, slice, text_at, text_run}
-use Rattle.jcode.specs.Language.{Language, Just, Unclosed, IsText, Text, between, Spelt}
+use Rattle.jcode.specs.Language.{Language, Unclosed, IsText, Text, Spelt}
 use Rattle.jcode.specs.Spelling.{Sizes}
 use Rattle.jcode.specs.Pieces.{got, read_inner, read_text}
 use Rattle.jcode.proofs.Outcomes.{got_what, got_next, unless_got}

@@ -11,9 +11,10 @@ use Rattle.jcode.specs.declared.variable.Variable.{Variable}
 use Rattle.jcode.specs.Pieces.{got, Reads}
 use Rattle.jcode.specs.Scopes.{Scope}
 use Rattle.jcode.specs.Tables.{put}
-use Rattle.jcode.specs.ReadTerms.{UnitRow, held}
-use Rattle.jcode.specs.Sentences.{Sentence}
-use Rattle.jcode.specs.ReadUnits.{Fills, LaysAll, laid_in, rows_all, laid_all, read_heading, read_declarations, read_statements, Tables, tables, scope_in, read_body, read_rest, located, read_unit, over, attempted, achieved}
+use Rattle.jcode.specs.ReadTerms.{held}
+use Rattle.jcode.specs.Sentences.{Sentence, rows_all}
+use Rattle.jcode.specs.ReadUnits.{Fills, LaysAll, laid_in, laid_all, read_heading, read_declarations, read_statements, Tables, tables, scope_in, read_body, read_rest, located, read_unit, over, attempted, achieved}
+use Rattle.jcode.specs.Rows.{UnitRow}
 use Rattle.jcode.proofs.Chains.{reads_pair, reads_giving, refuses, refuses_pair, made_of, refused_of}
 use Rattle.jcode.proofs.Fillings.{put_front, take_over}
 use Rattle.jcode.proofs.Stores.{length_put}

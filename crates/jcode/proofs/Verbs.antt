@@ -1,28 +1,27 @@
 -- What follows the words of statements: reading and spelling agree.
-use Rattle.std.proofs.Common.{◌≡◌, ℕ, ◌+◌, ◌-◌, ◌≤◌, Bool, true, false, cond, List, [], ◌∷◌, ◌++◌, length, get_or, Some, None, Option, sym, refl, ap, ◌∙◌, subst, arith}
-use Rattle.std.specs.Prelude.{codes}
+use Rattle.std.proofs.Common.{◌≡◌, ℕ, ◌+◌, ◌-◌, ◌≤◌, true, List, [], ◌∷◌, length, get_or, refl, ap, ◌∙◌, arith}
 use Rattle.std.specs.List.{IsDistinct}
 use Rattle.std.proofs.lemmas.List.{length-append}
 use Rattle.terms.specs.Words.{same_word}
 use Rattle.jcode.specs.declared.span.Span.{Span}
 use Rattle.jcode.specs.declared.statement_reader.Verb.{Verb}
 use Rattle.jcode.specs.declared.statement_reader.Verb.TheVariants as verb
-use Rattle.jcode.specs.Bytes.{separator, digit, name_byte, slice, is_word}
-use Rattle.jcode.specs.Language.{Language, ◌⊙◌, Just, Gap, MayGap, End, Label, Text, Spelt}
-use Rattle.jcode.specs.Spelling.{Sizes, Variable, Term, Listing, Says}
-use Rattle.jcode.specs.Pieces.{Reader, ◌▷◌, ◌◁◌, ◌⊗◌, ◌giving◌, read_text, read_label, read_end}
-use Rattle.jcode.specs.Scopes.{Scope}
-use Rattle.jcode.specs.ReadTerms.{UnitRow}
-use Rattle.jcode.specs.Sentences.{Sentence, Hang, Break, Require, Proclaim, New, Assign, Split, When, Branch, Join, rows_of, verb_word}
-use Rattle.jcode.specs.ReadStatements.{read_text_end, read_label_end, read_gap_label, listing, by_verb}
+use Rattle.jcode.specs.Bytes.{separator, digit, slice}
+use Rattle.jcode.specs.Language.{◌⊙◌, Gap, MayGap, End, Label, Text, Spelt}
+use Rattle.jcode.specs.Spelling.{Sizes, Listing}
+use Rattle.jcode.specs.Pieces.{◌◁◌, read_label, read_end}
+use Rattle.jcode.specs.Scopes.{Scope, listing}
+use Rattle.jcode.specs.Sentences.{Sentence, Hang, Break, Require, Proclaim, New, Assign, Split, When, Branch, Join, rows_of}
+use Rattle.jcode.specs.ReadStatements.{read_text_end, read_label_end, read_gap_label, by_verb}
 use Rattle.jcode.specs.Units.{retold}
+use Rattle.jcode.specs.Rows.{UnitRow}
 use Rattle.jcode.proofs.Places.{byte, parts, spelt_as}
-use Rattle.jcode.proofs.Agreement.{Production, plain, mark, ahead, behind, both, image, Stops, Anywhere, Agrees, after_agrees, before_agrees, pair_agrees, image_agrees}
+use Rattle.jcode.proofs.Agreement.{Production, plain, mark, ahead, behind, both, image, Stops, Agrees, after_agrees, before_agrees, pair_agrees, image_agrees}
 use Rattle.jcode.proofs.Marks.{gap_agrees, may_gap_agrees, end_agrees}
-use Rattle.jcode.proofs.Classes.{digit_least, large_no_separator, separator_no_name, separator_no_digit, begins, begins_with, white_begins, may_gap_stops}
+use Rattle.jcode.proofs.Classes.{digit_least, large_no_separator, separator_no_digit, begins, begins_with, white_begins}
 use Rattle.jcode.proofs.Numbers.{decimal_first, label_agrees}
 use Rattle.jcode.proofs.Texts.{text_agrees}
-use Rattle.jcode.proofs.Terms.{Few, terms, term_agrees, term_stops}
+use Rattle.jcode.proofs.Terms.{terms, term_agrees, term_stops}
 use Rattle.jcode.proofs.Lists.{listing_agrees, Target, target_agrees, target_stops}
 
 module _ (sc : Scope) (used : ℕ) where

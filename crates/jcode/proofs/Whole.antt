@@ -1,5 +1,5 @@
 -- Units: reading and spelling agree.
-use Rattle.std.proofs.Common.{◌≡◌, ℕ, zero, suc, ◌+◌, ◌-◌, ◌<◌, ◌≤◌, min, Bool, true, false, cond, List, [], ◌∷◌, ◌++◌, map, length, get_or, sym, refl, ap, ◌∙◌, subst, ⊎_elim, arith}
+use Rattle.std.proofs.Common.{◌≡◌, ℕ, ◌<◌, min, cond, List, [], ◌∷◌, map, length, get_or, sym, refl, ap, ◌∙◌, subst, ⊎_elim}
 use Rattle.std.specs.Prelude.{codes}
 use Rattle.std.specs.List.{IsDistinct}
 use Rattle.std.proofs.lemmas.Bool.{cases_lt, both_ways}
@@ -8,11 +8,11 @@ use Rattle.terms.specs.Words.{same_word}
 use Rattle.jcode.specs.declared.refusal.Refusal.TheVariants.{Missing}
 use Rattle.jcode.specs.declared.span.Span.{Span}
 use Rattle.jcode.specs.declared.variable.Variable.{Variable}
-use Rattle.jcode.specs.Bytes.{separator, letter, name_byte, slice}
-use Rattle.jcode.specs.Language.{Language, ◌⊙◌, Spelt}
-use Rattle.jcode.specs.Spelling.{Declarations, Statements, names_of, scope_with, Heading, Spells, Sizes, Within, limits}
+use Rattle.jcode.specs.Bytes.{separator, letter, slice}
+use Rattle.jcode.specs.Language.{◌⊙◌, Spelt}
+use Rattle.jcode.specs.Spelling.{Declarations, Statements, names_of, scope_with, Heading, Spells, Sizes, Within}
 use Rattle.jcode.specs.Pieces.{got, refuse, and_then, ◌▷◌, ◌◁◌, ◌⊗◌, read_gap, read_end, read_word, read_name, read_keyword}
-use Rattle.jcode.specs.Scopes.{Scope, name_in}
+use Rattle.jcode.specs.Scopes.{name_in}
 use Rattle.jcode.specs.Sentences.{Sentence}
 use Rattle.jcode.specs.ReadUnits.{Located, Tables, read_heading, scope_in, read_declarations, read_statements, read_body, read_rest, located, read_unit}
 use Rattle.jcode.specs.Units.{Declared, declared_in, retold, JUnit, unit_in}
@@ -33,7 +33,7 @@ module _ (t : Tables) (bytes : List ℕ) where
   abbrev sizes : Sizes
   sizes = sizes_of t
 
-  heading_agrees : Agrees sizes bytes read_heading (slice bytes) (plain Heading) Sep
+  pub heading_agrees : Agrees sizes bytes read_heading (slice bytes) (plain Heading) Sep
   unfolding read_heading
   heading_agrees =
       after_agrees sizes bytes (keyword_agrees sizes bytes (codes "BEGIN") refl)
@@ -46,7 +46,7 @@ module _ (t : Tables) (bytes : List ℕ) where
   names_in [] = refl
   names_in (v ∷ vs) = λ k. name_in bytes v ∷ names_in vs k
 
-  scope_is : (vs : List Variable) → scope_in bytes vs ≡ scope_with (map (declared_in bytes) vs)
+  pub scope_is : (vs : List Variable) → scope_in bytes vs ≡ scope_with (map (declared_in bytes) vs)
   scope_is vs = λ k. record { names = names_in vs k; listed = [] }
 
   body_agrees : (vs : List Variable) → IsDistinct same_word (names_of (map (declared_in bytes) vs)) → Agrees sizes bytes (read_body t vs) (map (retold (slice bytes))) (statements (scope_with (map (declared_in bytes) vs))) Sep
@@ -89,7 +89,7 @@ module _ (t : Tables) (bytes : List ℕ) where
       begin p s stop = let c = parts s in declarations_begin sizes bytes p.0 c.1 (statements_begin sizes bytes (scope_with p.0) p.1 c.2 stop)
 
   -- a word stands within the bytes
-  heading_within : (i : ℕ) (s : Span) (j : ℕ) → read_heading bytes i ≡ got s j → i < length bytes
+  pub heading_within : (i : ℕ) (s : Span) (j : ℕ) → read_heading bytes i ≡ got s j → i < length bytes
   unfolding read_heading
   heading_within i s j e =
       let k = then_got (read_keyword (codes "BEGIN") bytes i) (λ _ i. (read_gap ▷ (read_name ◁ read_end)) bytes i) e in

@@ -1,28 +1,21 @@
 -- Words, names and variables: reading and spelling agree.
-use Rattle.std.proofs.Common.{◌≡◌, ℕ, ◌+◌, ◌-◌, ◌<◌, ◌≤◌, Bool, true, false, ltb, leb, cond, not, List, [], ◌∷◌, length, take, drop, get_or, Some, None, Option, sym, refl, ap, ◌∙◌, subst, ⊎_elim, arith, length-drop, length-take, le_trans}
-use Rattle.std.specs.Prelude.{slice_get, position}
-use Rattle.std.specs.List.{list_all, IsDistinct, position_or_len}
-use Rattle.std.proofs.lemmas.Bool.{cases_lt, cases_Bool, cond-true, cond-false, and_parts, and_from, or_left, both_ways, le-ltb, lt-ltb, ltb-false, false_from_ne_true}
-use Rattle.std.proofs.lemmas.List.{get_or-drop, get_or-take, nil_from_length}
-use Rattle.std.proofs.lemmas.List.Quantifiers.{position-Some}
-use Rattle.std.proofs.lemmas.List.Sums.{position_or_len_is}
-use Rattle.std.proofs.lemmas.Map.Keys.{apart_from_distinct}
-use Rattle.std.proofs.lemmas.Option.{slice_get-get_or, slice_get_within, get_or_from_slice_get}
+use Rattle.std.proofs.Common.{◌≡◌, ℕ, ◌+◌, ◌<◌, ◌≤◌, true, ltb, cond, List, length, drop, get_or, sym, refl, ap, ◌∙◌, subst, ⊎_elim, arith, length-drop, length-take}
+use Rattle.std.specs.List.{list_all}
+use Rattle.std.proofs.lemmas.Bool.{cases_lt, cond-true, cond-false, and_parts, and_from, or_left, both_ways, le-ltb, ltb-false}
+use Rattle.std.proofs.lemmas.List.{get_or-drop, get_or-take}
 use Rattle.terms.specs.Words.{same_word}
-use Rattle.jcode.specs.declared.refusal.Refusal.TheVariants.{Missing, Limit, Name as Unknown}
+use Rattle.jcode.specs.declared.refusal.Refusal.TheVariants.{Missing}
 use Rattle.jcode.specs.declared.span.Span.{Span}
 use Rattle.jcode.specs.Bytes.{letter, name_byte, slice, passes, run_at, is_word}
-use Rattle.jcode.specs.Language.{Language, Just, IsName, Name, between, Spelt}
-use Rattle.jcode.specs.Spelling.{Sizes, Variable, Listed}
-use Rattle.jcode.specs.Pieces.{Answer, got, refuse, and_then, read_word, read_name, read_keyword, short as short_enough}
-use Rattle.jcode.specs.Scopes.{Scope, index_of, member}
-use Rattle.jcode.specs.ReadTerms.{found as found_at, known, read_variable, read_listed}
-use Rattle.jcode.proofs.Outcomes.{refused_got, got_what, got_next, then_got, then_step, when_got, unless_got}
-use Rattle.jcode.proofs.Places.{byte, byte_between, length_between, spelt_as}
-use Rattle.jcode.proofs.Agreement.{Production, plain, mark, kept, Stops, Stands, Finds, found, short, Agrees, finds_then, kept_agrees, spelling}
-use Rattle.jcode.proofs.Fronts.{passes_byte, run, front_passes, front_spelt, front_stops, front_length, front_next, front_is}
+use Rattle.jcode.specs.Language.{Language, Just, Name, Spelt}
+use Rattle.jcode.specs.Spelling.{Sizes}
+use Rattle.jcode.specs.Pieces.{got, refuse, read_word, read_name, read_keyword, short as short_enough}
+use Rattle.jcode.proofs.Outcomes.{got_what, got_next, then_got, when_got, unless_got}
+use Rattle.jcode.proofs.Places.{byte, spelt_as}
+use Rattle.jcode.proofs.Agreement.{plain, mark, Stops, found, Agrees, finds_then, kept_agrees, spelling}
+use Rattle.jcode.proofs.Fronts.{passes_byte, run, front_passes, front_spelt, front_stops, front_next, front_is}
 use Rattle.jcode.proofs.Marks.{same_words, same_refl}
-use Rattle.jcode.proofs.Classes.{begins, letter_no_separator}
+use Rattle.jcode.proofs.Classes.{begins}
 
 abbrev pub Word : List ℕ → Language
 Word n w = (is_word n ≡ true) × (w ≡ n)

@@ -2,6 +2,7 @@ pub mod Refusals
 pub mod Bytes
 pub mod Pieces
 pub mod Scopes
+pub mod Rows
 pub mod Tables
 pub mod ReadTerms
 pub mod Sentences
@@ -11,4 +12,5 @@ pub mod Lines
 pub mod Units
 pub mod Language
 pub mod Spelling
+pub mod Outgrown
 pub mod Notation

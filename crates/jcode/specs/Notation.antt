@@ -1,13 +1,15 @@
 -- Reading accepts exactly the units that the notation allows.
-use Rattle.std.specs.Prelude.{◌≡◌, ℕ, ◌<◌, false, ◌⊎◌, List, length, take, Ok, Err, Result}
+use Rattle.std.specs.Prelude.{◌≡◌, ℕ, false, List, length, take, Ok, Err, Result}
 use Rattle.jcode.specs.declared.reader.Outline.{Outline}
 use Rattle.jcode.specs.declared.refusal.ReadFault.{ReadFault}
 use Rattle.jcode.specs.declared.refusal.Refusal.TheVariants.{Table}
 use Rattle.jcode.specs.Bytes.{separator, passes}
 use Rattle.jcode.specs.Language.{Spelt}
 use Rattle.jcode.specs.Spelling.{Spells, Sizes, Within, limits}
-use Rattle.jcode.specs.ReadUnits.{rows_all, Tables, tables}
+use Rattle.jcode.specs.ReadUnits.{Tables, tables}
+use Rattle.jcode.specs.Outgrown.{IsOutgrown}
 use Rattle.jcode.specs.Units.{JUnit, unit_of}
+use Rattle.jcode.specs.Sentences.{rows_all}
 
 abbrev pub sizes_of : Tables → Sizes
 sizes_of t = record { variables = length t.variables; statements = length t.statements; rows = length t.rows }
@@ -30,10 +32,6 @@ pub record TellsUnit (bytes : List ℕ) (start : ℕ) (most : Sizes) (o : Outlin
   pub statements : o.statements ≡ length u.statements
   pub rows : o.rows ≡ length (rows_all u.statements)
 
--- some table is shorter than the notation's limit
-abbrev pub AreShort : Sizes → Type 0
-AreShort t = (t.variables < 32) ⊎ ((t.statements < 200) ⊎ (t.rows < 2000))
-
 pub record AcceptsExactly (bytes : List ℕ) (start : ℕ) (before : Tables) (result : Result Outline ReadFault) (after : Tables) : Type 0 where
   -- what is told is a unit that stands there
   pub only : (o : Outline) → result ≡ Ok o → TellsUnit bytes start (sizes_of before) o (unit_told bytes o after)
@@ -43,5 +41,5 @@ pub record AcceptsExactly (bytes : List ℕ) (start : ℕ) (before : Tables) (re
   pub one : (u v : JUnit) (w : List ℕ) → Spells u w → Within limits u → Spells v w → Within limits v → u ≡ v
   -- where it is refused no unit stands, but one that does not fit the tables, and that is refused for them alone
   pub refused : (f : ReadFault) → result ≡ Err f → (u : JUnit) (next : ℕ) → IsUnit bytes start next u → (f.refusal ≡ Table) × (Within (sizes_of before) u → ⊥)
-  -- tables as long as the limits are never refused
-  pub enough : (place : ℕ) → result ≡ Err (record { refusal = Table; place = place }) → AreShort (sizes_of before)
+  -- the tables are blamed only where what stands before the place has outgrown them
+  pub outgrown : (place : ℕ) → result ≡ Err (record { refusal = Table; place = place }) → IsOutgrown (sizes_of before) bytes start place

@@ -12,8 +12,9 @@ use Rattle.jcode.specs.declared.statement_reader.Verb.{Verb}
 use Rattle.jcode.specs.declared.statement_reader.Verb.TheVariants as verb
 use Rattle.jcode.specs.Bytes.{stands}
 use Rattle.jcode.specs.Pieces.{Answer, got, Reader, refuse, and_then, ◌▷◌, ◌◁◌, ◌⊗◌, ◌giving◌, repeated, past_gap, read_mark, read_gap, read_end, read_may_gap, read_name, read_label, read_text}
-use Rattle.jcode.specs.Scopes.{Scope, member}
-use Rattle.jcode.specs.ReadTerms.{UnitRow, held, held_with, told_with, read_variable, read_close, read_term}
+use Rattle.jcode.specs.Rows.{UnitRow}
+use Rattle.jcode.specs.Scopes.{Scope, member, listing}
+use Rattle.jcode.specs.ReadTerms.{held, held_with, told_with, read_variable, read_close, read_term}
 use Rattle.jcode.specs.Sentences.{Sentence, Hang, Break, Require, Proclaim, New, Assign, Split, When, Branch, Join, rows_of, listing_of, term_at, laid}
 
 abbrev pub nesting : ℕ
@@ -75,10 +76,6 @@ read_names_listed sc = read_names sc giving listing_of
 
 abbrev pub read_listed : Scope → Reader Listing
 read_listed sc = read_listing sc giving listing_of
-
--- where NEW lists these
-abbrev pub listing : Scope → List ℕ → Scope
-listing sc vs = record { names = sc.names; listed = vs }
 
 unfoldable pub read_text_end : Reader Span
 read_text_end = read_may_gap ▷ (read_text ◁ read_end)

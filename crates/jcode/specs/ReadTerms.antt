@@ -1,14 +1,12 @@
 -- Terms: how they are read.
 use Rattle.std.specs.Prelude.{◌≡◌, ℕ, zero, suc, ◌+◌, Bool, true, false, cond, List, [], ◌∷◌, ◌++◌, length, Some, None, Ok, Err, codes, Option, Result, ◌==◌, nat_le}
 use Rattle.terms.specs.declared.operator.Operator.{Operator}
-use Rattle.terms.specs.declared.row.Row.{Row}
 use Rattle.terms.specs.declared.row.Row.TheVariants.{Constant, Mention as Mentioned, Operator as Applied}
 use Rattle.terms.specs.Words.{same_word}
-use Rattle.terms.specs.Operators.{operator_of, arity}
+use Rattle.terms.specs.Operators.{operator_of}
 use Rattle.jcode.specs.declared.cursor.Cursor.{Cursor}
 use Rattle.jcode.specs.declared.mention.Aspect.{Aspect}
 use Rattle.jcode.specs.declared.mention.Aspect.TheVariants.{Value, Shadow}
-use Rattle.jcode.specs.declared.mention.Mention.{Mention}
 use Rattle.jcode.specs.declared.mention.Stage.{Stage}
 use Rattle.jcode.specs.declared.mention.Stage.TheVariants.{Current, New}
 use Rattle.jcode.specs.declared.refusal.ReadFault.{ReadFault}
@@ -19,11 +17,10 @@ use Rattle.jcode.specs.declared.term_reader.Head.{Head}
 use Rattle.jcode.specs.declared.term_reader.Head.TheVariants.{Constant as ConstantHead, Defined, New as NewHead, Operator as OperatorHead}
 use Rattle.jcode.specs.Bytes.{slice, stands}
 use Rattle.jcode.specs.Pieces.{Answer, got, refused, Reader, refuse, and_then, ◌▷◌, ◌giving◌, read_mark, read_gap, read_may_gap, read_name, read_number}
+pub use Rattle.jcode.specs.Rows.{UnitRow}
+use Rattle.jcode.specs.Rows.{operands_after}
 use Rattle.jcode.specs.Scopes.{Scope, index_of, member}
 use Rattle.jcode.specs.Tables.{put}
-
-abbrev pub UnitRow : Type 0
-UnitRow = Row Mention
 
 -- a word with `!` after it: what it opens
 abbrev pub operator_head : Option Operator → Option Head
@@ -82,12 +79,6 @@ read_row sc bytes at =
     cond (stands 33 bytes j)
     (by_head_found sc at (head_of (slice bytes s)) bytes (j + 1))
     (and_then (known sc bytes s j) (λ v k. got (mention Value Current v) k)))
-
--- how many operands follow a row
-abbrev pub operands_after : UnitRow → ℕ
-operands_after (Constant z) = 0
-operands_after (Mentioned m) = 0
-operands_after (Applied o) = arity o
 
 abbrev pub row_limit : ℕ
 row_limit = 2000

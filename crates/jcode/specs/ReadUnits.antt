@@ -22,7 +22,9 @@ use Rattle.jcode.specs.Bytes.{slice, stands}
 use Rattle.jcode.specs.Pieces.{Answer, got, refused, Reader, refuse, and_then, ◌▷◌, ◌◁◌, ◌⊗◌, ◌giving◌, repeated, past_gap, read_mark, read_gap, read_end, read_may_gap, read_word, read_name, read_keyword, read_number}
 use Rattle.jcode.specs.Scopes.{Scope, name_in}
 use Rattle.jcode.specs.Tables.{put, full_by}
-use Rattle.jcode.specs.ReadTerms.{UnitRow, held, leaves, read_close}
+use Rattle.jcode.specs.Rows.{UnitRow}
+use Rattle.jcode.specs.ReadTerms.{held, leaves, read_close}
+pub use Rattle.jcode.specs.Sentences.{rows_all}
 use Rattle.jcode.specs.Sentences.{Sentence, rows_of, laid, verb_of}
 use Rattle.jcode.specs.ReadStatements.{by_verb}
 
@@ -112,11 +114,7 @@ by_found sc room used r full at (Some v) bytes i = cond full (refuse r at) (by_v
 unfoldable pub read_sentence : Scope → ℕ → Refusal → Bool → ℕ → Reader (Sentence Span)
 read_sentence sc room r full used bytes at = and_then (read_word bytes at) (λ s j. by_found sc room used r full at (verb_of (slice bytes s)) bytes j)
 
--- the rows of statements one after another, and their records where these rows stand from a place on
-abbrev pub rows_all : {T : Type 0} → List (Sentence T) → List UnitRow
-rows_all [] = []
-rows_all (s ∷ ss) = rows_of s ++ rows_all ss
-
+-- the records of statements, where their rows stand one after another from a place on
 abbrev pub laid_all : ℕ → List (Sentence Span) → List Statement
 laid_all used [] = []
 laid_all used (s ∷ ss) = laid used s ∷ laid_all (used + length (rows_of s)) ss

@@ -11,6 +11,10 @@ pub record Scope : Type 0 where
   pub names : List (List ℕ)
   pub listed : List ℕ
 
+-- where NEW lists these
+abbrev pub listing : Scope → List ℕ → Scope
+listing sc vs = record { names = sc.names; listed = vs }
+
 abbrev pub member : ℕ → List ℕ → Bool
 member v xs = list_any (λ x. nat_eq x v) xs
 

@@ -8,7 +8,7 @@ use Rattle.jcode.specs.declared.statement.Statement.TheVariants as stands
 use Rattle.jcode.specs.declared.statement.Term.{Term}
 use Rattle.jcode.specs.declared.statement_reader.Verb.{Verb}
 use Rattle.jcode.specs.declared.statement_reader.Verb.TheVariants as verb
-use Rattle.jcode.specs.ReadTerms.{UnitRow}
+use Rattle.jcode.specs.Rows.{UnitRow}
 
 -- a statement with its texts as T: where they stand while it is read, their bytes in the unit that it belongs to
 pub data Sentence (T : Type 0) : Type 0 where
@@ -35,6 +35,11 @@ rows_of (Split l) = []
 rows_of (When e l) = e
 rows_of (Branch t l) = []
 rows_of (Join l) = []
+
+-- the rows of statements one after another
+abbrev pub rows_all : {T : Type 0} → List (Sentence T) → List UnitRow
+rows_all [] = []
+rows_all (s ∷ ss) = rows_of s ++ rows_all ss
 
 -- listed variables in their record: past the count they are 0
 abbrev pub listing_of : List ℕ → Listing

@@ -11,12 +11,10 @@ use Rattle.jcode.specs.declared.mention.Stage.TheVariants.{Current, New as Renew
 use Rattle.jcode.specs.declared.variable.Domain.{Domain}
 use Rattle.jcode.specs.declared.variable.Domain.TheVariants.{Integer, Boolean, Subrange}
 use Rattle.jcode.specs.Language.{Language, ◌⊙◌, Many, Just, Gap, MayGap, End, IsName, Name, Number, Label, Text}
-use Rattle.jcode.specs.Scopes.{Scope, member}
-use Rattle.jcode.specs.ReadTerms.{UnitRow, operands_after}
-use Rattle.jcode.specs.Sentences.{Sentence, Hang, Break, Require, Proclaim, New, Assign, Split, When, Branch, Join}
-use Rattle.jcode.specs.ReadUnits.{rows_all}
-use Rattle.jcode.specs.ReadStatements.{listing}
+use Rattle.jcode.specs.Scopes.{Scope, member, listing}
+use Rattle.jcode.specs.Sentences.{Sentence, Hang, Break, Require, Proclaim, New, Assign, Split, When, Branch, Join, rows_all}
 use Rattle.jcode.specs.Units.{Declared, JUnit}
+use Rattle.jcode.specs.Rows.{UnitRow, operands_after}
 
 abbrev pub Variable : Scope → ℕ → Language
 Variable sc v w = (slice_get sc.names v ≡ Some w) × IsName w

@@ -7,10 +7,10 @@ use Rattle.jcode.specs.declared.statement.Term.{Term}
 use Rattle.jcode.specs.declared.variable.Domain.{Domain}
 use Rattle.jcode.specs.declared.variable.Variable.{Variable}
 use Rattle.jcode.specs.Bytes.{slice}
-use Rattle.jcode.specs.ReadTerms.{UnitRow}
 use Rattle.jcode.specs.ReadUnits.{Located, Tables}
 use Rattle.jcode.specs.Scopes.{listed_in}
 use Rattle.jcode.specs.Sentences.{Sentence, Hang, Break, Require, Proclaim, New, Assign, Split, When, Branch, Join}
+use Rattle.jcode.specs.Rows.{UnitRow}
 
 -- a variable, with its type as declared
 pub record Declared : Type 0 where

@@ -3,7 +3,8 @@
 ghost use Rattle.std.specs.Prelude.{◌≡◌, ◌<◌, ◌≤◌, true, length, OnOk};
 ghost use Rattle.jcode.specs.Pieces.{Reads, told};
 ghost use Rattle.jcode.specs.Scopes.{scope_of};
-ghost use Rattle.jcode.specs.ReadTerms.{head_of, mention, by_head, known, read_variable, read_listed, read_defined, read_row, operands_after, read_open, read_begin, read_close, read_lead, read_operands, read_term, ReadsRows};
+ghost use Rattle.jcode.specs.ReadTerms.{head_of, mention, by_head, known, read_variable, read_listed, read_defined, read_row, read_open, read_begin, read_close, read_lead, read_operands, read_term, ReadsRows};
+ghost use Rattle.jcode.specs.Rows.{operands_after};
 
 use super::cursor::Cursor;
 use super::mention::{Aspect, Mention, ROW_LIMIT, Stage, UnitRow};

@@ -1,6 +1,5 @@
 -- Two cells added for each variable of a list.
-use Rattle.std.proofs.Common.{◌≡◌, ℕ, suc, ◌+◌, ◌*◌, ◌<◌, true, List, [], ◌∷◌, ◌++◌, map, length, drop, get_or, None, sym, refl, ap, ◌∙◌, subst, arith, slice_set}
-use Rattle.std.proofs.Math.Seq.{drop-cons}
+use Rattle.std.proofs.Common.{◌≡◌, ℕ, ◌+◌, ◌*◌, List, [], ◌∷◌, map, length, get_or, None, refl, ◌∙◌, subst, arith, slice_set}
 use Rattle.jcode.specs.declared.variable.Domain.TheVariants.{Integer, Boolean}
 use Rattle.jcode.specs.Units.{JUnit}
 use Rattle.checking.specs.Types.{domains}

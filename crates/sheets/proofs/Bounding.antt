@@ -1,8 +1,7 @@
 -- How long the sheet of a path can be.
-use Rattle.std.proofs.Common.{◌≡◌, ℕ, zero, suc, ◌+◌, ◌*◌, ◌<◌, ◌≤◌, true, ◌&&◌, leb, List, [], ◌∷◌, ◌++◌, map, length, take, drop, get_or, sym, refl, ap, ◌∙◌, subst, length-append, append-nil, arith, nat_le}
+use Rattle.std.proofs.Common.{◌≡◌, ℕ, ◌+◌, ◌*◌, ◌≤◌, true, List, [], ◌∷◌, ◌++◌, length, drop, get_or, sym, refl, ap, ◌∙◌, subst, length-append, arith, nat_le}
 use Rattle.std.proofs.lemmas.Bool.{and_parts, leb-true}
 use Rattle.std.proofs.lemmas.List.{length-map, length-take, length-drop}
-use Rattle.std.proofs.lemmas.List.Folds.{list_all-append}
 use Rattle.terms.specs.declared.operator.Operator.TheVariants.{Equal}
 use Rattle.terms.specs.declared.row.Row.TheVariants.{Mention, Operator as Applied}
 use Rattle.terms.specs.Terms.{renamed}
@@ -19,7 +18,6 @@ use Rattle.checking.specs.Pieces.{is_list}
 use Rattle.sheets.specs.Matches.{terms_kept}
 use Rattle.sheets.specs.PathSheets.{Progress, cells_of, parts_of, moved, onward, over, rows_of, parts_along, cells_along}
 use Rattle.sheets.specs.Runs.{listed, read, sentence}
-use Rattle.sheets.specs.Sheets.{CellTerm}
 use Rattle.sheets.proofs.Following.{length_cells}
 use Rattle.sheets.proofs.Sensing.{reads, sensible}
 use Rattle.sheets.proofs.Saying.{told_parts}

@@ -1,15 +1,14 @@
 -- The sheet of a path, written from a writer's start on.
-use Rattle.std.proofs.Common.{◌≡◌, ℕ, ◌+◌, ◌*◌, ◌<◌, ◌≤◌, List, ◌++◌, map, length, None, Some, sym, ap, ◌∙◌, subst, length-append, arith}
+use Rattle.std.proofs.Common.{◌≡◌, ℕ, ◌*◌, ◌≤◌, List, ◌++◌, map, length, None, Some, ap, ◌∙◌, subst, length-append, arith}
 use Rattle.std.proofs.lemmas.List.{length-map}
 use Rattle.terms.specs.declared.row.Row.{Row}
-use Rattle.flow.specs.declared.step.Step.{Step}
 use Rattle.flow.specs.declared.turn.Turn.{Turn}
 use Rattle.flow.specs.Numbers.{nth}
 use Rattle.flow.specs.Turns.{told, Starts as StartsPath}
 use Rattle.flow.proofs.Shortness.{path_short}
 use Rattle.jcode.specs.Bytes.{slice}
 use Rattle.jcode.specs.Tables.{put}
-use Rattle.jcode.specs.Units.{JUnit, retold, sentence_in}
+use Rattle.jcode.specs.Units.{retold, sentence_in}
 use Rattle.checking.specs.declared.unit.CheckedUnit.{CheckedUnit}
 use Rattle.checking.specs.Breaks.{step_of, steps_of}
 use Rattle.checking.specs.CheckedUnits.{said}

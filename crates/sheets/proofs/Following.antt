@@ -1,5 +1,5 @@
 -- A path's statements visited one after another.
-use Rattle.std.proofs.Common.{◌≡◌, ℕ, ◌+◌, ◌*◌, ◌<◌, List, [], ◌∷◌, ◌++◌, map, length, Some, None, Option, IfSome, sym, refl, ap, ◌∙◌, subst, arith}
+use Rattle.std.proofs.Common.{◌≡◌, ℕ, ◌+◌, ◌*◌, ◌<◌, List, [], ◌∷◌, ◌++◌, length, Some, None, Option, IfSome, sym, refl, ap, ◌∙◌, subst, arith}
 use Rattle.std.proofs.lemmas.List.{length-map}
 use Rattle.flow.specs.declared.step.Step.{Step}
 use Rattle.flow.specs.declared.turn.Turn.{Turn}
@@ -8,8 +8,8 @@ use Rattle.jcode.specs.Sentences.{Sentence}
 use Rattle.jcode.specs.Units.{JUnit}
 use Rattle.checking.specs.Breaks.{steps_of}
 use Rattle.sheets.specs.declared.writer.Writer.{Writer}
-use Rattle.sheets.specs.PathSheets.{Progress, cell_of, cells_of, parts_of, moved, onward, parts_along, cells_along}
-use Rattle.sheets.specs.Runs.{listed, sentence, types_at}
+use Rattle.sheets.specs.PathSheets.{Progress, cells_of, parts_of, moved, onward, parts_along, cells_along}
+use Rattle.sheets.specs.Runs.{listed, sentence}
 use Rattle.sheets.specs.Writings.{Writes, Fills, CountsAll, progress}
 use Rattle.sheets.proofs.Adding.{two_each}
 use Rattle.sheets.proofs.Typing.{unset, unset_cells_of}
@@ -80,7 +80,7 @@ module _ (u : JUnit) (before w : Writer) (all : List ℕ) (o : Option Turn) (alo
         let wrote = fills w x (parts_of (progress w) st) (cells_of u (progress w) st) (moved (progress w) st) p in
         record {
           fills = λ end q. here.fills end (subst (λ p. Fills w (parts_along u (progress w) p) (cells_along u (progress w) p) end) (ap (λ i. i ∷ rest) at ∙ sym path)
-          (filled w x end (parts_of (progress w) st) (parts_along u (onward (progress w) st) rest) (cells_of u (progress w) st) (cells_along u (onward (progress w) st) rest) wrote (subst (λ at. Fills x (parts_along u at rest) (cells_along u at rest) end) on q)));
+              (filled w x end (parts_of (progress w) st) (parts_along u (onward (progress w) st) rest) (cells_of u (progress w) st) (cells_along u (onward (progress w) st) rest) wrote (subst (λ at. Fills x (parts_along u at rest) (cells_along u at rest) end) on q)));
           counts = subst (λ at. CountsAll x (parts_along u at rest) (cells_along u at rest)) (sym on) (counts_rest w x x (parts_of (progress w) st) (parts_along u (onward (progress w) st) rest) (cells_of u (progress w) st) (cells_along u (onward (progress w) st) rest) (whole rest path) wrote);
           size = p.size ∙ here.size;
           tells = still (steps_of u) t next follows;

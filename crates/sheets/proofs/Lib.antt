@@ -28,3 +28,4 @@ pub mod Rooming
 pub mod Telling
 pub mod Spanning
 pub mod Replaying
+pub mod Deciding

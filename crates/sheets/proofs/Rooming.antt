@@ -1,5 +1,5 @@
 -- A drafted sheet, for which there was room.
-use Rattle.std.proofs.Common.{◌≡◌, ℕ, ◌≤◌, List, length, Some, None, Ok, Err, Option, inl, sym, refl, ap, ◌∙◌, subst}
+use Rattle.std.proofs.Common.{◌≡◌, ℕ, ◌≤◌, List, length, Some, None, Option, inl, sym, refl, ◌∙◌, subst}
 use Rattle.std.specs.Option.{ok_or}
 use Rattle.terms.specs.declared.row.Row.{Row}
 use Rattle.jcode.specs.declared.refusal.Refusal.TheVariants.{Condition as NoCondition}

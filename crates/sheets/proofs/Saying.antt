@@ -1,13 +1,11 @@
 -- What a statement adds, whether it is told by the tables or by the unit that they hold.
-use Rattle.std.proofs.Common.{◌≡◌, ℕ, ◌*◌, ◌+◌, ◌<◌, Bool, true, ◌&&◌, ltb, nat_le, nat_lt, List, [], ◌∷◌, map, length, get_or, sym, refl, ap, ◌∙◌, subst, arith}
+use Rattle.std.proofs.Common.{◌≡◌, ℕ, ◌*◌, ◌+◌, true, ltb, nat_le, nat_lt, List, [], ◌∷◌, map, length, get_or, sym, refl, ap, ◌∙◌, subst, arith}
 use Rattle.std.proofs.lemmas.Bool.{and_parts, and_from, ltb-true, lt-ltb}
-use Rattle.std.proofs.Math.ListN.{get_or-map}
 use Rattle.std.specs.List.{list_all}
 use Rattle.jcode.specs.declared.statement.Statement.{Statement}
 use Rattle.jcode.specs.declared.statement.Statement.TheVariants as stands
 use Rattle.jcode.specs.declared.span.Span.{Span}
 use Rattle.jcode.specs.Bytes.{slice}
-use Rattle.jcode.specs.ReadTerms.{UnitRow}
 use Rattle.jcode.specs.Sentences.{Sentence, Hang, Break, Require, Proclaim, New, Assign, Split, When, Branch, Join}
 use Rattle.jcode.specs.Units.{JUnit, retold, sentence_in}
 use Rattle.checking.specs.declared.unit.CheckedUnit.{CheckedUnit}
@@ -20,51 +18,7 @@ use Rattle.sheets.specs.PathSheets.{Progress, cells_from, parts_of, cells_of, mo
 use Rattle.sheets.specs.Runs.{sentence, listed, stored}
 use Rattle.sheets.specs.Writings.{Writes, CountsAll, progress}
 use Rattle.sheets.proofs.Sensing.{sensible}
-
--- the statement of a unit is the one of its tables, with its texts as bytes
-pub sentence_of : (u : CheckedUnit) (i : ℕ) → sentence (said u) i ≡ retold (slice u.tables.bytes.now) (sentence_in u.tables.rows.now (get_or u.tables.statements.now i stands.Hang))
-sentence_of u i =
-    let f = retold (slice u.tables.bytes.now) in
-    let rows = u.tables.rows.now in
-    get_or-map f (map (sentence_in rows) u.tables.statements.now) i Hang ∙ ap f (get_or-map (sentence_in rows) u.tables.statements.now i stands.Hang)
-
-module _ {S T : Type 0} (f : S → T) where
-  -- texts add nothing
-  pub same_parts : (w : Progress) (st : Sentence S) → parts_of w (retold f st) ≡ parts_of w st
-  same_parts w Hang = refl
-  same_parts w (Break t) = refl
-  same_parts w (Require e t) = refl
-  same_parts w (Proclaim e) = refl
-  same_parts w (New vs e t) = refl
-  same_parts w (Assign v e g) = refl
-  same_parts w (Split l) = refl
-  same_parts w (When e l) = refl
-  same_parts w (Branch t l) = refl
-  same_parts w (Join l) = refl
-
-  pub same_cells : (u : JUnit) (w : Progress) (st : Sentence S) → cells_of u w (retold f st) ≡ cells_of u w st
-  same_cells u w Hang = refl
-  same_cells u w (Break t) = refl
-  same_cells u w (Require e t) = refl
-  same_cells u w (Proclaim e) = refl
-  same_cells u w (New vs e t) = refl
-  same_cells u w (Assign v e g) = refl
-  same_cells u w (Split l) = refl
-  same_cells u w (When e l) = refl
-  same_cells u w (Branch t l) = refl
-  same_cells u w (Join l) = refl
-
-  pub same_listed : (st : Sentence S) → listed (retold f st) ≡ listed st
-  same_listed Hang = refl
-  same_listed (Break t) = refl
-  same_listed (Require e t) = refl
-  same_listed (Proclaim e) = refl
-  same_listed (New vs e t) = refl
-  same_listed (Assign v e g) = refl
-  same_listed (Split l) = refl
-  same_listed (When e l) = refl
-  same_listed (Branch t l) = refl
-  same_listed (Join l) = refl
+use Rattle.sheets.proofs.Telling.{text_listed, text_parts, text_cells, sentence_of}
 
 -- the variables that a statement of a sensible unit lists are the unit's
 below_twice : (n m : ℕ) (vs : List ℕ) → m ≡ 2 * n → list_all (λ v. ltb v n) vs ≡ true → list_all (λ v. nat_lt (2 * v + 1) m) vs ≡ true
@@ -92,21 +46,21 @@ module _ (u : CheckedUnit) (i : ℕ) (s : Statement) (is : s ≡ get_or u.tables
   st = sentence_in u.tables.rows.now s
 
   told : sentence (said u) i ≡ retold (slice u.tables.bytes.now) st
-  told = sentence_of u i ∙ ap (λ s. retold (slice u.tables.bytes.now) (sentence_in u.tables.rows.now s)) (sym is)
+  told = sentence_of u.tables.bytes.now u.tables.name (held u.tables) i ∙ ap (λ s. retold (slice u.tables.bytes.now) (sentence_in u.tables.rows.now s)) (sym is)
 
   pub told_parts : (w : Progress) → parts_of w (sentence (said u) i) ≡ parts_of w st
-  told_parts w = ap (parts_of w) told ∙ same_parts (slice u.tables.bytes.now) w st
+  told_parts w = ap (parts_of w) told ∙ text_parts (slice u.tables.bytes.now) w st
 
   pub told_cells : (w : Progress) → cells_of (said u) w (sentence (said u) i) ≡ cells_of (said u) w st
-  told_cells w = ap (cells_of (said u) w) told ∙ same_cells (slice u.tables.bytes.now) (said u) w st
+  told_cells w = ap (cells_of (said u) w) told ∙ text_cells (slice u.tables.bytes.now) (said u) w st
 
   pub told_moved : (w : Progress) → moved w (sentence (said u) i) ≡ moved w st
-  told_moved w = ap (λ vs. stored vs (cells_from w.cells vs) w.current) (ap listed told ∙ same_listed (slice u.tables.bytes.now) st)
+  told_moved w = ap (λ vs. stored vs (cells_from w.cells vs) w.current) (ap listed told ∙ text_listed (slice u.tables.bytes.now) st)
 
   pub told_below : (m : ℕ) → m ≡ 2 * length (said u).variables → list_all (λ v. nat_lt (2 * v + 1) m) (listed st) ≡ true
   told_below m e =
       let kept = (sensible u.tables.bytes.now u.tables.name (held u.tables) u.unbroken).terms i in
-      subst (λ vs. list_all (λ v. nat_lt (2 * v + 1) m) vs ≡ true) (ap listed told ∙ same_listed (slice u.tables.bytes.now) st) (listed_below (length (said u).variables) m (sentence (said u) i) e kept)
+      subst (λ vs. list_all (λ v. nat_lt (2 * v + 1) m) vs ≡ true) (ap listed told ∙ text_listed (slice u.tables.bytes.now) st) (listed_below (length (said u).variables) m (sentence (said u) i) e kept)
 
   module _ (w : Writer) where
     abbrev at : Progress

@@ -3,19 +3,15 @@ use Rattle.std.proofs.Common.{◌≡◌, ℕ, ◌+◌, ◌*◌, ◌≤◌, true,
 use Rattle.std.proofs.lemmas.List.{length-map}
 use Rattle.std.proofs.lemmas.List.FromFn.{length-range_with_len}
 use Rattle.std.specs.List.{list_all, range_with_len}
-use Rattle.jcode.specs.Tables.{put}
 use Rattle.jcode.specs.declared.variable.Domain.TheVariants.{Integer}
 use Rattle.jcode.specs.Units.{JUnit, declared_in}
 use Rattle.checking.specs.declared.unit.CheckedUnit.{CheckedUnit}
 use Rattle.checking.specs.CheckedUnits.{said}
 use Rattle.checking.specs.Held.{held}
 use Rattle.checking.specs.Types.{domains}
-use Rattle.terms.specs.declared.row.Row.{Row}
-use Rattle.sheets.specs.declared.cell.Cell.{Cell}
-use Rattle.sheets.specs.declared.part.Part.{Part}
 use Rattle.sheets.specs.declared.writer.Writer.{Writer}
 use Rattle.sheets.specs.Currents.{current_in}
-use Rattle.sheets.specs.PathSheets.{cell_of, cells_from, started}
+use Rattle.sheets.specs.PathSheets.{cell_of}
 use Rattle.sheets.specs.Runs.{types_at, with_shadows}
 use Rattle.sheets.specs.Writings.{page, rows_page, parts_page, cells_page, Extends, Writes, Starts}
 use Rattle.sheets.proofs.Adding.{two_each}

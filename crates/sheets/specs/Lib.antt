@@ -10,6 +10,7 @@ pub mod Matches
 pub mod Settling
 pub mod Writings
 pub mod Drafts
+pub mod Standing
 pub mod Places
 pub mod PathExamples
 pub mod Replays

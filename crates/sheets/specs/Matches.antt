@@ -2,11 +2,9 @@
 use Rattle.std.specs.Prelude.{◌≡◌, ◌↔◌, ℕ, ◌*◌, Bool, true, ◌&&◌, List, [], ◌++◌, length, take, drop, ℤ, nat_lt}
 use Rattle.std.specs.List.{list_all}
 use Rattle.flow.specs.Paths.{Path}
-use Rattle.jcode.specs.declared.span.Span.{Span}
-use Rattle.jcode.specs.ReadUnits.{Tables}
 use Rattle.jcode.specs.Sentences.{Sentence, Hang, Break, Require, Proclaim, New, Assign, Split, When, Branch, Join}
-use Rattle.jcode.specs.Units.{JUnit, unit_of}
-use Rattle.checking.specs.Breaks.{steps_of, Unbroken}
+use Rattle.jcode.specs.Units.{JUnit}
+use Rattle.checking.specs.Breaks.{steps_of}
 use Rattle.checking.specs.Pieces.{is_domain, is_term, is_list}
 use Rattle.checking.specs.Rules.{kinds_kept, span_kept}
 use Rattle.checking.specs.Types.{domains}
@@ -57,7 +55,3 @@ pub record Matches (u : JUnit) : Type 0 where
 -- the sheet of every path of a unit keeps the rules of sheets
 abbrev pub SheetsKeep : JUnit → Type 0
 SheetsKeep u = (p : List ℕ) → Path (steps_of u) p → Keeps (sheet_of u p)
-
--- a unit that a check passed
-abbrev pub Checked : (JUnit → Type 0) → Type 0
-Checked P = (bytes : List ℕ) (name : Span) (t : Tables) → Unbroken bytes name t → P (unit_of bytes name t)

@@ -1,5 +1,5 @@
 -- One condition settled: its sheet is written, a judge is asked, and what the judge proposes is replayed.
-use Rattle.std.specs.Prelude.{◌≡◌, ℕ, ◌+◌, ◌<◌, ◌≤◌, ◌⊎◌, List, [], ◌∷◌, ◌++◌, length, take, drop, replicate, ℤ, pos, Ok, Err, Result}
+use Rattle.std.specs.Prelude.{◌≡◌, ℕ, ◌+◌, ◌<◌, ◌≤◌, ◌⊎◌, List, length, take, drop, replicate, ℤ, pos, Ok, Err, Result}
 use Rattle.terms.specs.declared.row.Row.{Row}
 use Rattle.flow.specs.Numbers.{paths, nth}
 use Rattle.jcode.specs.declared.refusal.Refusal.TheVariants.{Condition as NoCondition, Buffer}
@@ -16,7 +16,7 @@ use Rattle.sheets.specs.declared.part.Part.{Part}
 use Rattle.sheets.specs.Faults.{refused}
 use Rattle.sheets.specs.Judges.{Opinion, passed, failed, unsure}
 use Rattle.sheets.specs.PathSheets.{sheet_of, rows_of, laid_from}
-use Rattle.sheets.specs.Sheets.{CellTerm, Condition}
+use Rattle.sheets.specs.Sheets.{Condition}
 use Rattle.sheets.specs.Valuations.{Falsifies}
 
 -- the condition of the path with the number k
@@ -31,8 +31,11 @@ pub record Held : Type 0 where
   pub valuation : List ℤ
   pub working : List Mark
 
+abbrev pub held : List (Row ℕ) → List Part → List Cell → List ℤ → List Mark → Held
+held rows parts cells v w = record { rows = rows; parts = parts; cells = cells; valuation = v; working = w }
+
 abbrev pub on : Desk → Held
-on d = record { rows = d.rows.now; parts = d.parts.now; cells = d.cells.now; valuation = d.valuation.now; working = d.working.now }
+on d = held d.rows.now d.parts.now d.cells.now d.valuation.now d.working.now
 
 -- the sheet of a condition has room in buffers of these lengths
 pub record Written (c : Condition) (rows parts cells : ℕ) : Type 0 where

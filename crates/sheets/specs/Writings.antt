@@ -1,5 +1,5 @@
 -- What a writer writes, statement by statement.
-use Rattle.std.specs.Prelude.{◌≡◌, ℕ, suc, ◌+◌, ◌*◌, ◌<◌, List, [], map, length, Some, None, Option}
+use Rattle.std.specs.Prelude.{◌≡◌, ℕ, ◌+◌, ◌*◌, ◌<◌, List, [], map, length, Some, None, Option}
 use Rattle.terms.specs.declared.row.Row.{Row}
 use Rattle.jcode.specs.Tables.{put}
 use Rattle.jcode.specs.Units.{JUnit}

@@ -11,6 +11,7 @@ pub mod part;
 pub mod path;
 pub mod replay;
 pub mod setting;
+pub mod settling;
 pub mod sheet;
 mod tables;
 mod term;

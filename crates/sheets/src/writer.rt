@@ -163,7 +163,11 @@ impl Writer<'_> {
     {
         let first = self.written.rows;
         if let Some(cell) = set {
-            push(self.rows, &mut self.written.rows, Row::Operator(Operator::Equal));
+            push(
+                self.rows,
+                &mut self.written.rows,
+                Row::Operator(Operator::Equal),
+            );
             push(self.rows, &mut self.written.rows, Row::Mention(cell));
         }
         let before = self.current;
@@ -177,8 +181,16 @@ impl Writer<'_> {
         requires { Counts (cells_page self.old) 2 }
         ensures { Writes self.old [] (cell_for value_by domain ∷ cell_for shadow_by Boolean ∷ []) (current_in self.old.current) self.new }
     {
-        push(self.cells, &mut self.written.cells, cell_of(domain, value_by));
-        push(self.cells, &mut self.written.cells, cell_of(Domain::Boolean, shadow_by));
+        push(
+            self.cells,
+            &mut self.written.cells,
+            cell_of(domain, value_by),
+        );
+        push(
+            self.cells,
+            &mut self.written.cells,
+            cell_of(Domain::Boolean, shadow_by),
+        );
     }
 
     // Two cells for each variable that is listed, and the current cells with these in place.
@@ -224,7 +236,9 @@ impl Writer<'_> {
                 self.part(None, term_rows(rows, condition), &before);
             }
             Statement::New {
-                listing, condition, ..
+                listing,
+                condition,
+                ..
             } => {
                 let after = self.new_cells(unit, listing.listed());
                 self.part(None, term_rows(rows, condition), &after);

@@ -22,7 +22,7 @@ pub struct Lengths {
 
 impl Lengths {
     // Whether buffers of these lengths have room.
-    fn fit(self, rows: usize, parts: usize, cells: usize) -> bool
+    pub(super) fn fit(self, rows: usize, parts: usize, cells: usize) -> bool
         ensures { Decides result ((self.rows ≤ rows) × (self.parts ≤ parts) × (self.cells ≤ cells)) }
     {
         self.rows <= rows && self.parts <= parts && self.cells <= cells
@@ -30,7 +30,7 @@ impl Lengths {
 }
 
 // Writes the sheet of a path as far as there is room, and tells how long it is; `None` where there is no such path.
-fn draft(
+pub(super) fn draft(
     unit: &CheckedUnit<'_>,
     number: usize,
     rows: &mut [CellRow],

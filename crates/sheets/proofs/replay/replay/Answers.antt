@@ -2,7 +2,7 @@ use Rattle.std.proofs.Common.{◌≡◌, ◌≤◌, true, length, take, sym, ap,
 use Rattle.sheets.specs.Places.{cells_in, says, marks_for}
 use Rattle.sheets.specs.Valuations.{is_within}
 use Rattle.sheets.specs.Replays.{first_numbers}
-use Rattle.sheets.proofs.Keeping.{keeps_from}
+use Rattle.sheets.proofs.Ruling.{keeps_from}
 use Rattle.sheets.proofs.Replaying.{points_of, long_enough, its_exact, its_within, replayed}
 use Rattle.sheets.proofs.replay.replay.Goals as goal
 

@@ -1,9 +1,8 @@
-use Rattle.std.proofs.Common.{◌≡◌, ◌≤◌, length, sym, ap, ◌∙◌, subst, rules}
+use Rattle.std.proofs.Common.{◌≤◌, length, sym, ap, ◌∙◌, subst, rules}
 use Rattle.std.specs.Option.{ok_or}
 use Rattle.checking.specs.CheckedUnits.{said}
-use Rattle.sheets.specs.declared.writing.Lengths.{Lengths}
-use Rattle.sheets.specs.Drafts.{WritesSheet, lengths_of}
-use Rattle.sheets.specs.Settling.{Written, condition}
+use Rattle.sheets.specs.Drafts.{WritesSheet}
+use Rattle.sheets.specs.Settling.{condition}
 use Rattle.sheets.proofs.Rooming.{room_of, has_room}
 use Rattle.sheets.proofs.writing.whole.Goals as goal
 

@@ -6,7 +6,7 @@ use Rattle.sheets.specs.Places.{rows_in, parts_in, says}
 use Rattle.sheets.specs.Sheets.{part_in}
 use Rattle.sheets.specs.Valuations.{GoalAloneFalse}
 use Rattle.sheets.specs.Replays.{numbers_in}
-use Rattle.sheets.proofs.Keeping.{keeps_from}
+use Rattle.sheets.proofs.Ruling.{keeps_from}
 use Rattle.sheets.proofs.Replaying.{part_untrue, goal_told, true_told}
 use Rattle.sheets.proofs.replay.Valued.is_falsified.Goals as goal
 

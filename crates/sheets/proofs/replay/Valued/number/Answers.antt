@@ -2,7 +2,7 @@ use Rattle.std.proofs.Common.{◌≤◌, length, sym, subst, arith}
 use Rattle.std.specs.List.{slice_get}
 use Rattle.reckoning.specs.Exactness.{Exact}
 use Rattle.sheets.specs.Places.{rows_in, parts_in, cells_in, says}
-use Rattle.sheets.proofs.Keeping.{keeps_from}
+use Rattle.sheets.proofs.Ruling.{keeps_from}
 use Rattle.sheets.proofs.Replaying.{part_short, part_number}
 use Rattle.sheets.proofs.replay.Valued.number.Goals as goal
 

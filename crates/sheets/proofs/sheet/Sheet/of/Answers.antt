@@ -1,6 +1,6 @@
 use Rattle.std.proofs.Common.{length}
 use Rattle.sheets.specs.Sheets.{condition_of}
-use Rattle.sheets.proofs.Keeping.{fills_true, keeps_true}
+use Rattle.sheets.proofs.Ruling.{fills_true, keeps_true}
 use Rattle.sheets.proofs.sheet.Sheet.of.Goals as goal
 
 pub invariant_of-result : goal.invariant_of-result

@@ -1,4 +1,4 @@
-use Rattle.std.proofs.Common.{rules, ℕ, ◌≡◌, ◌+◌, ◌*◌, ◌<◌, List, length, sym, subst, ap, ◌∙◌, arith}
+use Rattle.std.proofs.Common.{ℕ, ◌*◌, List, length, sym, subst, ap, ◌∙◌}
 use Rattle.jcode.specs.Units.{sentence_in}
 use Rattle.checking.specs.CheckedUnits.{said}
 use Rattle.sheets.specs.PathSheets.{cells_of}

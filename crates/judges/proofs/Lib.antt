@@ -1,0 +1,12 @@
+mod Parts
+mod Replying
+mod Walking
+mod Numbers
+mod Counting
+mod Opening
+mod Finding
+mod Spanning
+mod Refuting
+mod Turning
+mod Following
+mod Telling

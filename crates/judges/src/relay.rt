@@ -1,0 +1,27 @@
+// Relays: one judge after another.
+
+ghost use Rattle.judges.specs.Relays.{relayed, relay_sound};
+
+use reckoning::mark::Mark;
+use sheets::judge::{Answer, Judge};
+use sheets::sheet::Sheet;
+
+// It asks its first judge, and only where that one is unsure its second. Both are any judges, relays too.
+#[derive(Debug, Drop, PartialEq, Eq)]
+pub struct Relay<A, B> {
+    pub first: A,
+    pub second: B,
+}
+
+impl<A: Judge, B: Judge> Judge for Relay<A, B> {
+    ghost meaning = { λ s c. relayed (A.meaning s.first c) (B.meaning s.second c) };
+
+    ghost sound = { λ s. relay_sound (A.meaning s.first) (B.meaning s.second) (A.sound s.first) (B.sound s.second) };
+
+    fn ask(&mut self, sheet: &Sheet<'_>, valuation: &mut [i64], working: &mut [Mark]) -> Answer {
+        match self.first.ask(sheet, valuation, working) {
+            Answer::Unsure => self.second.ask(sheet, valuation, working),
+            answer => answer,
+        }
+    }
+}

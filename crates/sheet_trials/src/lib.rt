@@ -1,0 +1,7 @@
+// Trials of sheets, in a crate of their own since a crate with tests is proved twice.
+#![tactic(auto)]
+
+#[cfg(test)]
+mod judges;
+#[cfg(test)]
+mod places;
