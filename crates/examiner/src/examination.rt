@@ -10,7 +10,11 @@ use super::tally::Tally;
 use super::verdict::{Judgement, Verdict};
 use checking::unit::CheckedUnit;
 use jcode::refusal::Refusal;
+use sheets::desk::Desk;
 use sheets::fault::SheetFault;
+use sheets::judge::Judge;
+use sheets::outcome::Outcome;
+use sheets::settling::settle;
 
 // It remembers no more than its tally, and yet some history of calls led to it.
 #[derive(Drop)]
@@ -25,8 +29,9 @@ pub struct Examination<'a> {
 
 impl<'a> Examination<'a> {
     ghost use Rattle.std.specs.Prelude.{◌↔◌, [], Some, IsTrue};
-    ghost use Rattle.examiner.specs.Histories.{took, handed_back, told, out};
+    ghost use Rattle.examiner.specs.Histories.{took, settled, handed_back, told, out};
     ghost use Rattle.examiner.specs.Lives.{Leads, Goes, Promised};
+    ghost use Rattle.sheets.specs.Settling.{on};
     ghost use Rattle.examiner.specs.Tallies.{IsDue, judgement_by};
 
     pub fn new(unit: CheckedUnit<'a>, tag: u64) -> Examination<'a>
@@ -65,6 +70,38 @@ impl<'a> Examination<'a> {
         ensures { IsTrue result ↔ IsDue self.now.tag self.now.tally slip.now }
     {
         self.tally.out && slip.tag() == self.tag && slip.number() == self.settled()
+    }
+
+    // Has a judge settle the slip's condition on a desk. A slip that is not taken comes back, and all stays as it was.
+    pub fn settle<J: Judge>(
+        &mut self,
+        slip: Slip,
+        judge: &mut J,
+        desk: &mut Desk<'_>,
+    ) -> Result<Outcome, Returned>
+        ensures same { J.meaning judge.new ≡ J.meaning judge.old }
+        ensures lent_rows { desk.new.rows.ghost_name ≡ desk.old.rows.ghost_name }
+        ensures lent_parts { desk.new.parts.ghost_name ≡ desk.old.parts.ghost_name }
+        ensures lent_cells { desk.new.cells.ghost_name ≡ desk.old.cells.ghost_name }
+        ensures lent_valuation { desk.new.valuation.ghost_name ≡ desk.old.valuation.ghost_name }
+        ensures lent_working { desk.new.working.ghost_name ≡ desk.old.working.ghost_name }
+        ensures next { Goes (settled (J.meaning judge.old) slip (on desk.old) result (on desk.new)) self.old self.new }
+    {
+        if !self.is_out(&slip) {
+            return Err(Returned {
+                slip,
+                fault: Refusal::Slip.into(),
+            });
+        }
+        let number = slip.number();
+        match settle(&self.unit, number, judge, desk) {
+            Ok(outcome) => {
+                slip.spend();
+                self.tally.count(number, outcome);
+                Ok(outcome)
+            }
+            Err(fault) => Err(Returned { slip, fault }),
+        }
     }
 
     // Settles nothing: the condition will be taken again.
