@@ -1,0 +1,7 @@
+pub mod Histories
+pub mod Steps
+pub mod Promises
+pub mod Tallies
+pub mod Lives
+pub mod Reports
+pub mod WorkedUnit

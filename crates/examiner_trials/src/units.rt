@@ -1,0 +1,63 @@
+// Units to examine.
+
+use checking::unit::CheckedUnit;
+use jcode::mention::UnitRow;
+use jcode::reader::read;
+use jcode::statement::Statement;
+use jcode::variable::Variable;
+use std::process::Abort;
+use terms::row::Row;
+
+// Two paths; the second fails.
+pub static LIMIT: &'static [u8] =
+    b"BEGIN Limit\np : (variable (subrange 0 9))\nBREAK (/entry/)\nREQUIRE (gei! (p) (consti! 0)) (/low/)\nPROCLAIM (lei! (p) (consti! 7))\nASSIGN (p) (p) (true!) (addi! (p) (consti! 1))\nREQUIRE (lti! (p) (consti! 8)) (/high/)\nHANG\nEND\n";
+
+// No path.
+pub static IDLE: &'static [u8] = b"BEGIN Idle\nBREAK (//)\nHANG\nEND\n";
+
+// Tables with room for each of these units.
+#[derive(Drop)]
+pub struct Tables {
+    variables: [Variable; 4],
+    statements: [Statement; 120],
+    rows: [UnitRow; 120],
+}
+
+impl Tables {
+    pub fn new() -> Tables {
+        Tables {
+            variables: [Variable::default(); 4],
+            statements: [Statement::default(); 120],
+            rows: [Row::Constant(0); 120],
+        }
+    }
+}
+
+// The unit that the bytes hold, read and checked.
+pub fn checked<'a>(rt: &impl Abort, bytes: &'a [u8], tables: &'a mut Tables) -> CheckedUnit<'a> {
+    let Ok(outline) = read(
+        bytes,
+        0,
+        &mut tables.variables,
+        &mut tables.statements,
+        &mut tables.rows,
+    ) else {
+        panic!(rt; "it was not read");
+    };
+    let tables: &'a Tables = tables;
+    let (Some(variables), Some(statements), Some(rows)) = (
+        tables.variables.get(..outline.variables),
+        tables.statements.get(..outline.statements),
+        tables.rows.get(..outline.rows),
+    ) else {
+        panic!(rt; "it has more than its tables");
+    };
+    let mut unit = CheckedUnit::house();
+    if unit
+        .check(bytes, outline.name, variables, statements, rows)
+        .is_err()
+    {
+        panic!(rt; "it broke a rule");
+    }
+    unit
+}
