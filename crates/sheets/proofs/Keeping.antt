@@ -1,6 +1,7 @@
 -- The rules of sheets, and the test of them.
-use Rattle.std.proofs.Common.{◌≡◌, ℕ, suc, ◌+◌, ◌<◌, ◌≤◌, Bool, true, false, cond, ◌&&◌, leb, ltb, eqb, List, [], ◌∷◌, length, Some, None, Option, refl, sym, ap, ◌∙◌, subst, arith}
+use Rattle.std.proofs.Common.{◌≡◌, ℕ, suc, ◌+◌, ◌<◌, ◌≤◌, Bool, true, false, cond, ◌&&◌, leb, ltb, eqb, List, [], ◌∷◌, length, Some, None, Option, refl, sym, ap, ap₂, ◌∙◌, subst, arith}
 use Rattle.std.specs.List.{list_all, enumerate_from}
+use Rattle.std.proofs.lemmas.Option.{cond_some}
 use Rattle.std.proofs.lemmas.Bool.{and_parts, and_from, le-leb, lt-ltb, ltb-true, eqb-true, eq-eqb}
 use Rattle.terms.specs.declared.operator.Operator.{Operator}
 use Rattle.terms.specs.declared.operator.Operator.TheVariants.{Addi, Subi, Negi, Mul, Divi, Mod, Odd, Gei, Lei, Gti, Lti, Mini, Maxi, True, False, And, Or, Not, Implies, Impliedby, Notimplies, Notimpliedby, Equal, Notequal, If}
@@ -11,7 +12,7 @@ use Rattle.checking.specs.Nesting.{writes_term}
 use Rattle.sheets.specs.declared.cell.Cell.{Cell}
 use Rattle.sheets.specs.declared.part.Part.{Part}
 use Rattle.sheets.specs.Sheets.{CellTerm, Condition, Keeps, Sets, condition_of, part, setting_term, set_by, cell_bounds, is_some_of, is_bounded, is_true_term, fills_from}
-use Rattle.sheets.specs.Tables.{IsSheet, after_part, fills, first_cell, sets, is_part, is_set, are_set, keeps}
+use Rattle.sheets.specs.Tables.{IsSheet, after_part, fills, is_equal, first_cell, sets, is_part, is_set, are_set, keeps}
 use Rattle.sheets.proofs.Setters.{clash, unlike, some_of, is_some, set_at}
 
 -- parts that fill the rows
@@ -56,72 +57,42 @@ module _ {X : Type 0} (p q r : X → Bool) where
       let c = and_parts _ _ h in
       and_from _ _ (and_from _ _ a.0 (and_from _ _ b.0 c.0)) (three_from xs a.1 b.1 c.1)
 
+equal_is : (o : Operator) → is_equal o ≡ true → o ≡ Equal
+equal_is Addi e = clash e
+equal_is Subi e = clash e
+equal_is Negi e = clash e
+equal_is Mul e = clash e
+equal_is Divi e = clash e
+equal_is Mod e = clash e
+equal_is Odd e = clash e
+equal_is Gei e = clash e
+equal_is Lei e = clash e
+equal_is Gti e = clash e
+equal_is Lti e = clash e
+equal_is Mini e = clash e
+equal_is Maxi e = clash e
+equal_is True e = clash e
+equal_is False e = clash e
+equal_is And e = clash e
+equal_is Or e = clash e
+equal_is Not e = clash e
+equal_is Implies e = clash e
+equal_is Impliedby e = clash e
+equal_is Notimplies e = clash e
+equal_is Notimpliedby e = clash e
+equal_is Equal e = refl
+equal_is Notequal e = clash e
+equal_is If e = clash e
+
 -- what a part begins with
-abbrev Begins : ℕ → CellTerm → Type 0
-Begins i e = e ≡ Applied Equal ∷ Mention i ∷ setting_term e
-
-begins_with : (o : Operator) (r : Row ℕ) (e : CellTerm) (i : ℕ) → first_cell (Applied o ∷ r ∷ e) ≡ Some i → Begins i (Applied o ∷ r ∷ e)
-begins_with Addi r e i h = unlike h
-begins_with Subi r e i h = unlike h
-begins_with Negi r e i h = unlike h
-begins_with Mul r e i h = unlike h
-begins_with Divi r e i h = unlike h
-begins_with Mod r e i h = unlike h
-begins_with Odd r e i h = unlike h
-begins_with Gei r e i h = unlike h
-begins_with Lei r e i h = unlike h
-begins_with Gti r e i h = unlike h
-begins_with Lti r e i h = unlike h
-begins_with Mini r e i h = unlike h
-begins_with Maxi r e i h = unlike h
-begins_with True r e i h = unlike h
-begins_with False r e i h = unlike h
-begins_with And r e i h = unlike h
-begins_with Or r e i h = unlike h
-begins_with Not r e i h = unlike h
-begins_with Implies r e i h = unlike h
-begins_with Impliedby r e i h = unlike h
-begins_with Notimplies r e i h = unlike h
-begins_with Notimpliedby r e i h = unlike h
-begins_with Equal (Constant z) e i h = unlike h
-begins_with Equal (Mention j) e i h = let same : j ≡ i = cc in ap (λ k. Applied Equal ∷ Mention k ∷ e) same
-begins_with Equal (Applied o) e i h = unlike h
-begins_with Notequal r e i h = unlike h
-begins_with If r e i h = unlike h
-
-alone : (o : Operator) → first_cell (Applied o ∷ []) ≡ None
-alone Addi = refl
-alone Subi = refl
-alone Negi = refl
-alone Mul = refl
-alone Divi = refl
-alone Mod = refl
-alone Odd = refl
-alone Gei = refl
-alone Lei = refl
-alone Gti = refl
-alone Lti = refl
-alone Mini = refl
-alone Maxi = refl
-alone True = refl
-alone False = refl
-alone And = refl
-alone Or = refl
-alone Not = refl
-alone Implies = refl
-alone Impliedby = refl
-alone Notimplies = refl
-alone Notimpliedby = refl
-alone Equal = refl
-alone Notequal = refl
-alone If = refl
-
-begins : (e : CellTerm) (i : ℕ) → first_cell e ≡ Some i → Begins i e
+begins : (e : CellTerm) (i : ℕ) → first_cell e ≡ Some i → e ≡ Applied Equal ∷ Mention i ∷ setting_term e
 begins [] i h = unlike h
 begins (Constant z ∷ e) i h = unlike h
 begins (Mention m ∷ e) i h = unlike h
-begins (Applied o ∷ []) i h = unlike (sym (alone o) ∙ h)
-begins (Applied o ∷ r ∷ e) i h = begins_with o r e i h
+begins (Applied o ∷ []) i h = unlike h
+begins (Applied o ∷ Constant z ∷ e) i h = unlike h
+begins (Applied o ∷ Applied p ∷ e) i h = unlike h
+begins (Applied o ∷ Mention j ∷ e) i h = let t = cond_some (is_equal o) j i h in ap₂ (λ p k. Applied p ∷ Mention k ∷ e) (equal_is o t.0) t.1
 
 module _ (c : Condition) where
   its_sets : (i p : ℕ) → (p + 1 < length c.parts) × (sets i (part c p) ≡ true) → Sets c p i

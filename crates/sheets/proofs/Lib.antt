@@ -3,3 +3,4 @@ pub mod Rooms
 pub mod Keeping
 pub mod Spanning
 pub mod Replaying
+pub mod Kept

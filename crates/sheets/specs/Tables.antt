@@ -1,6 +1,7 @@
 -- The rules of sheets as a test of tables.
 use Rattle.std.specs.Prelude.{ℕ, ◌+◌, Bool, true, false, cond, ◌&&◌, List, [], ◌∷◌, length, Some, None, Option, nat_lt, nat_le, nat_eq}
 use Rattle.std.specs.List.{list_all, enumerate_from}
+use Rattle.terms.specs.declared.operator.Operator.{Operator}
 use Rattle.terms.specs.declared.operator.Operator.TheVariants.{Equal}
 use Rattle.terms.specs.declared.row.Row.{Row}
 use Rattle.terms.specs.declared.row.Row.TheVariants.{Mention, Operator as Applied}
@@ -20,9 +21,13 @@ fills total None ps = false
 fills total (Some used) [] = nat_eq used total
 fills total (Some used) (p ∷ ps) = fills total (after_part total used p) ps
 
+abbrev pub is_equal : Operator → Bool
+is_equal Equal = true
+is_equal _ = false
+
 -- the cell that a part begins with `equal!` of
 abbrev pub first_cell : CellTerm → Option ℕ
-first_cell (Applied Equal ∷ Mention i ∷ e) = Some i
+first_cell (Applied o ∷ Mention i ∷ e) = cond (is_equal o) (Some i) None
 first_cell _ = None
 
 -- `equal!` of cell i and a term over lower cells
