@@ -1,6 +1,6 @@
 // Numbers of terms: rows read as whole numbers, where no row leaves the span.
 
-ghost use Rattle.std.specs.Prelude.{◌≡◌, ◌+◌, ◌<◌, ◌≤◌, length, map, drop, true, pos, slice_index_or};
+ghost use Rattle.std.specs.Prelude.{◌≡◌, ◌<◌, ◌≤◌, length, true, pos, slice_index_or};
 ghost use Rattle.terms.specs.Numbers.{in_span};
 ghost use Rattle.terms.specs.Terms.{value};
 ghost use Rattle.reckoning.specs.Exactness.{Spans};
