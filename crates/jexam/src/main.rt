@@ -1,32 +1,73 @@
-// jexam: reads units from standard input, checks them, and writes a line for each.
+// jexam: reads units from standard input, examines each, and writes a line for each.
 #![tactic(auto)]
 
-ghost use Rattle.std.specs.Prelude.{◌≡◌};
-ghost use Rattle.jexam.specs.declared.Fault.TheVariants.{Refused};
+ghost use Rattle.std.specs.Prelude.{◌≡◌, ◌≤◌, length, IfOk};
+ghost use Rattle.checking.specs.declared.fault.CheckFault.TheVariants.{Reading};
+ghost use Rattle.jexam.specs.declared.Fault.TheVariants.{Refused, Unsettled};
 
 use anyhow::anyhow;
-use checking::checked::read_and_check;
 use checking::fault::CheckFault;
-use checking::line::line;
+use checking::unit::CheckedUnit;
+use examiner::examination::Examination;
+use examiner::slip::Returned;
 use jcode::mention::{ROW_LIMIT, UnitRow};
+use jcode::reader::read;
 use jcode::refusal::{ReadFault, Refusal};
-use jcode::statement::{STATEMENT_LIMIT, Statement};
+use jcode::statement::{LIST_LIMIT, STATEMENT_LIMIT, Statement};
 use jcode::variable::{VARIABLE_LIMIT, Variable};
-use std::alloc::{AllocError, Global};
+use judges::pass::Pass;
+use judges::relay::Relay;
+use judges::trier::Trier;
+use reckoning::mark::Mark;
+use reckoning::ranges::Ranges;
+use sheets::cell::{Cell, CellRow};
+use sheets::desk::Desk;
+use sheets::fault::SheetFault;
+use sheets::judge::Judge;
+use sheets::part::Part;
+use std::alloc::AllocError;
 use std::io;
 use std::io::{Read, Write};
 use std::process::ExitCode;
+use terms::kind::Kind;
 use terms::row::Row;
 
 // The most bytes that may come.
 const INPUT_LIMIT: usize = 65_536;
 
-// Why the program stops: what it was given is refused, or the machine fails it.
+// Room for the sheet of any path, which comes to a statement once at most: a statement lists a few variables, and gives two parts at most, of which an ASSIGN's have two rows more than its terms.
+const SHEET_CELLS: usize = 2 * VARIABLE_LIMIT + 2 * LIST_LIMIT * STATEMENT_LIMIT;
+
+const SHEET_PARTS: usize = 2 * STATEMENT_LIMIT;
+
+const SHEET_ROWS: usize = ROW_LIMIT + 4 * STATEMENT_LIMIT;
+
+// What stands in the cells of a desk before it is used.
+const NO_CELL: Cell = Cell {
+    kind: Kind::Number,
+    low: 0,
+    high: 0,
+    set_by: None,
+};
+
+// Room for a line: a name of 32 bytes, and what stands after it.
+const LINE_LIMIT: usize = 192;
+
+// Why the program stops: what it was given is refused, a condition cannot be settled, or the machine fails it.
 #[derive(Drop)]
 enum Fault {
     Refused(CheckFault),
+    Unsettled(SheetFault),
     Memory(AllocError),
     Device(io::Error),
+}
+
+impl From<ReadFault> for Fault {
+    ghost from_gives = { λ fault r. r ≡ Refused (Reading fault) };
+
+    fn from(value: ReadFault) -> Fault {
+        Fault::Refused(value.into())
+    }
 }
 
 impl From<CheckFault> for Fault {
@@ -34,6 +75,14 @@ impl From<CheckFault> for Fault {
 
     fn from(value: CheckFault) -> Fault {
         Fault::Refused(value)
+    }
+}
+
+impl From<SheetFault> for Fault {
+    ghost from_gives = { λ fault r. r ≡ Unsettled fault };
+
+    fn from(value: SheetFault) -> Fault {
+        Fault::Unsettled(value)
     }
 }
 
@@ -58,6 +107,37 @@ fn input(rt: &HostRuntime) -> Result<Vec<u8>, Fault> {
     Ok(bytes)
 }
 
+// Settles the next condition. A slip that comes back is handed back at once, so that none is owed.
+fn settle_next<J: Judge>(
+    examination: &mut Examination<'_>,
+    judge: &mut J,
+    desk: &mut Desk<'_>,
+) -> Result<(), SheetFault> {
+    let slip = examination.take()?;
+    match examination.settle(slip, judge, desk) {
+        Ok(_) => Ok(()),
+        Err(Returned { slip, fault }) => match examination.hand_back(slip) {
+            Ok(()) => Err(fault),
+            Err(_owed) => unreachable!(),
+        },
+    }
+}
+
+// Settles every condition of a unit by a pass over ranges, and by trying where that is unsure, and writes the unit's line.
+fn examine(unit: CheckedUnit<'_>, desk: &mut Desk<'_>, line: &mut [u8]) -> Result<usize, SheetFault>
+    ensures { IfOk result (λ written. written ≤ length line.new) }
+{
+    let mut examination = Examination::new(unit, 0);
+    let mut judge = Relay {
+        first: Pass { reckoning: Ranges },
+        second: Trier,
+    };
+    for _ in 0..unit.paths() {
+        settle_next(&mut examination, &mut judge, desk)?;
+    }
+    examination.verdict().report(&unit, line)
+}
+
 // A line for each unit.
 fn run(rt: &HostRuntime) -> Result<(), Fault> {
     let bytes = input(rt)?;
@@ -66,12 +146,20 @@ fn run(rt: &HostRuntime) -> Result<(), Fault> {
             refusal: Refusal::Limit,
             place: INPUT_LIMIT,
         };
-        return Err(CheckFault::from(fault).into());
+        return Err(fault.into());
     }
-    // Arrays of the limits: each unit that may be read fits them.
+    // Arrays of the limits: each unit that may be read fits them, and so does the sheet of each path.
     let mut variables = [Variable::default(); VARIABLE_LIMIT];
     let mut statements = [Statement::default(); STATEMENT_LIMIT];
     let mut rows: [UnitRow; ROW_LIMIT] = [Row::Constant(0); ROW_LIMIT];
+    let mut desk = Desk {
+        rows: &mut [Row::Constant(0); SHEET_ROWS],
+        parts: &mut [Part::default(); SHEET_PARTS],
+        cells: &mut [NO_CELL; SHEET_CELLS],
+        valuation: &mut [0; SHEET_CELLS],
+        working: &mut [Mark { low: 0, high: 0 }; SHEET_CELLS + SHEET_ROWS],
+    };
+    let mut line = [0; LINE_LIMIT];
     let mut stdout = rt.stdout();
     let mut at = 0;
     // No `while`, since that reading goes forward is no clause of `read`; a unit takes a byte at least, so there are no more of them than bytes.
@@ -79,10 +167,18 @@ fn run(rt: &HostRuntime) -> Result<(), Fault> {
         if at >= bytes.len() {
             break;
         }
-        let checked = read_and_check(&bytes, at, &mut variables, &mut statements, &mut rows)?;
-        let text = line(rt.alloc(), &bytes, checked)?;
-        stdout.write_all(&text)?;
-        at = checked.outline.next;
+        let outline = read(&bytes, at, &mut variables, &mut statements, &mut rows)?;
+        let mut unit = CheckedUnit::house();
+        unit.check(
+            &bytes,
+            outline.name,
+            &variables[..outline.variables],
+            &statements[..outline.statements],
+            &rows[..outline.rows],
+        )?;
+        let written = examine(unit, &mut desk, &mut line)?;
+        stdout.write_all(&line[..written])?;
+        at = outline.next;
     }
     Ok(())
 }
@@ -91,6 +187,10 @@ fn main(rt: HostRuntime) -> anyhow::Result<ExitCode> {
     match run(&rt) {
         Ok(()) => Ok(ExitCode::SUCCESS),
         Err(Fault::Refused(fault)) => {
+            println!(rt; "{fault}")?;
+            Ok(ExitCode::FAILURE)
+        }
+        Err(Fault::Unsettled(fault)) => {
             println!(rt; "{fault}")?;
             Ok(ExitCode::FAILURE)
         }
