@@ -2,6 +2,14 @@
 #![tactic(auto)]
 
 #[cfg(test)]
+mod conditions;
+#[cfg(test)]
 mod judges;
 #[cfg(test)]
 mod places;
+#[cfg(test)]
+mod replays;
+#[cfg(test)]
+mod units;
+#[cfg(test)]
+mod written;
