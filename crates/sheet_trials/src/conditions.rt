@@ -1,58 +1,16 @@
 // Paths' sheets, written into lent buffers: what these hold then, and what is refused.
 
+use super::buffers::Buffers;
 use super::units::{Held, LIMIT};
 use super::written::{SHEETS, Written};
 use checking::unit::CheckedUnit;
 use jcode::refusal::Refusal;
-use sheets::cell::{Cell, CellRow};
 use sheets::part::Part;
 use sheets::writing::{Lengths, measure, write};
 use std::process::Abort;
 use std::test::Fail;
-use terms::kind::Kind;
 use terms::operator::Operator;
 use terms::row::Row;
-
-// Buffers with more places than any of the sheets fills, and what they hold before.
-#[derive(Drop)]
-struct Buffers {
-    rows: [CellRow; 24],
-    parts: [Part; 8],
-    cells: [Cell; 14],
-}
-
-const SPARE_ROW: CellRow = Row::Constant(77);
-
-const SPARE_PART: Part = Part { first: 7, rows: 7 };
-
-const SPARE_CELL: Cell = Cell {
-    kind: Kind::Number,
-    low: 7,
-    high: 77,
-    set_by: Some(7),
-};
-
-// Whether a buffer begins with these records, and all after them are spare.
-fn begins<T: PartialEq>(buffer: &[T], records: &[T], spare: &T) -> bool {
-    let (front, rest) = buffer.split_at(records.len().min(buffer.len()));
-    front == records && rest.iter().all(|record| record == spare)
-}
-
-impl Buffers {
-    fn spare() -> Buffers {
-        Buffers {
-            rows: [SPARE_ROW; 24],
-            parts: [SPARE_PART; 8],
-            cells: [SPARE_CELL; 14],
-        }
-    }
-
-    fn begin(&self, rows: &[CellRow], parts: &[Part], cells: &[Cell]) -> bool {
-        begins(&self.rows, rows, &SPARE_ROW)
-            && begins(&self.parts, parts, &SPARE_PART)
-            && begins(&self.cells, cells, &SPARE_CELL)
-    }
-}
 
 // Whether the sheet is written as it is drawn out, with the rest of the buffers as it was.
 fn is_written(unit: &CheckedUnit<'_>, sheet: &Written) -> bool {

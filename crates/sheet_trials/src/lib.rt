@@ -2,6 +2,8 @@
 #![tactic(auto)]
 
 #[cfg(test)]
+mod buffers;
+#[cfg(test)]
 mod conditions;
 #[cfg(test)]
 mod judges;
@@ -9,6 +11,8 @@ mod judges;
 mod places;
 #[cfg(test)]
 mod replays;
+#[cfg(test)]
+mod settlings;
 #[cfg(test)]
 mod units;
 #[cfg(test)]

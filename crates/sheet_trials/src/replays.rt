@@ -1,19 +1,16 @@
 // Valuations of written sheets, replayed.
 
+use super::buffers::Buffers;
 use super::units::{FORK, Held, LIMIT, PAST, RAISED};
 use checking::unit::CheckedUnit;
 use jcode::refusal::Refusal;
 use reckoning::mark::ANY;
-use sheets::cell::{Cell, CellRow};
-use sheets::part::Part;
 use sheets::replay::replay;
 use sheets::sheet::Sheet;
 use sheets::writing::write;
 use std::process::Abort;
 use std::test::Fail;
-use terms::kind::Kind;
 use terms::part::part;
-use terms::row::Row;
 
 // A unit and the number of a path, and what the replay of a valuation of its sheet tells.
 static REPLAYS: [(&'static [u8], usize, &'static [i64], Result<bool, Refusal>); 19] = [
@@ -51,21 +48,21 @@ fn replayed(
     valuation: &[i64],
     marks: usize,
 ) -> Option<Result<bool, Refusal>> {
-    let mut rows: [CellRow; 24] = [Row::Constant(0); 24];
-    let mut parts = [Part::default(); 8];
-    let mut cells = [Cell {
-        kind: Kind::Number,
-        low: 0,
-        high: 0,
-        set_by: None,
-    }; 14];
-    let lengths = write(unit, number, &mut rows, &mut parts, &mut cells).ok()?;
+    let mut buffers = Buffers::spare();
+    let lengths = write(
+        unit,
+        number,
+        &mut buffers.rows,
+        &mut buffers.parts,
+        &mut buffers.cells,
+    )
+    .ok()?;
     let mut sheet = Sheet::unfilled();
     sheet
         .fill(
-            part(&rows, 0, lengths.rows),
-            part(&parts, 0, lengths.parts),
-            part(&cells, 0, lengths.cells),
+            part(&buffers.rows, 0, lengths.rows),
+            part(&buffers.parts, 0, lengths.parts),
+            part(&buffers.cells, 0, lengths.cells),
         )
         .ok()?;
     let mut working = [ANY; 38];
