@@ -12,4 +12,3 @@ pub mod Steps
 pub mod Held
 pub mod CheckedUnits
 pub mod ReadChecks
-pub mod Lines

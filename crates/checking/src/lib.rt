@@ -7,7 +7,6 @@ pub mod fault;
 pub mod kinding;
 mod kinds;
 mod layout;
-pub mod line;
 pub mod nesting;
 mod pieces;
 mod rules;

@@ -162,11 +162,7 @@ fn run(rt: &HostRuntime) -> Result<(), Fault> {
     let mut line = [0; LINE_LIMIT];
     let mut stdout = rt.stdout();
     let mut at = 0;
-    // No `while`, since that reading goes forward is no clause of `read`; a unit takes a byte at least, so there are no more of them than bytes.
-    for _ in 0..INPUT_LIMIT {
-        if at >= bytes.len() {
-            break;
-        }
+    while at < bytes.len() {
         let outline = read(&bytes, at, &mut variables, &mut statements, &mut rows)?;
         let mut unit = CheckedUnit::house();
         unit.check(
