@@ -24,7 +24,7 @@ pub struct Tables {
 }
 
 impl Tables {
-    pub fn new() -> Tables {
+    pub(super) fn new() -> Tables {
         Tables {
             variables: [Variable::default(); 4],
             statements: [Statement::default(); 120],
@@ -34,7 +34,7 @@ impl Tables {
 }
 
 // The unit that the bytes hold, read and checked.
-pub fn checked<'a>(rt: &impl Abort, bytes: &'a [u8], tables: &'a mut Tables) -> CheckedUnit<'a> {
+pub(super) fn checked<'a>(rt: &impl Abort, bytes: &'a [u8], tables: &'a mut Tables) -> CheckedUnit<'a> {
     let Ok(outline) = read(
         bytes,
         0,

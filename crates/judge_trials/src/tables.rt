@@ -9,7 +9,7 @@ use terms::kind::Kind;
 use terms::operator::Operator;
 use terms::row::Row;
 
-pub fn number(low: i64, high: i64) -> Cell {
+pub(super) fn number(low: i64, high: i64) -> Cell {
     Cell {
         kind: Kind::Number,
         low,
@@ -18,7 +18,7 @@ pub fn number(low: i64, high: i64) -> Cell {
     }
 }
 
-pub fn set(kind: Kind, low: i64, high: i64, place: usize) -> Cell {
+pub(super) fn set(kind: Kind, low: i64, high: i64, place: usize) -> Cell {
     Cell {
         kind,
         low,
@@ -28,7 +28,7 @@ pub fn set(kind: Kind, low: i64, high: i64, place: usize) -> Cell {
 }
 
 // A pressure p, a truth that no part mentions, the next pressure, which is p + 1, and a truth beside it.
-pub fn pressures() -> [Cell; 4] {
+pub(super) fn pressures() -> [Cell; 4] {
     [
         number(0, 9),
         Cell {
@@ -43,7 +43,7 @@ pub fn pressures() -> [Cell; 4] {
 }
 
 // (not! (lti! p 0)), (not! (lti! 7 p)), (equal! next (addi! p 1)), (equal! truth (equal! 0 0)), and the goal (lti! next limit)
-pub fn pressed(limit: i64) -> [CellRow; 21] {
+pub(super) fn pressed(limit: i64) -> [CellRow; 21] {
     [
         Row::Operator(Operator::Not),
         Row::Operator(Operator::Lti),
@@ -78,7 +78,7 @@ pub const PRESSED: [Part; 5] = [
 ];
 
 // The goal (lei! c0 limit) alone.
-pub fn at_most(limit: i64) -> [CellRow; 3] {
+pub(super) fn at_most(limit: i64) -> [CellRow; 3] {
     [
         Row::Operator(Operator::Lei),
         Row::Mention(0),
@@ -89,7 +89,7 @@ pub fn at_most(limit: i64) -> [CellRow; 3] {
 pub const ALONE: [Part; 1] = [Part { first: 0, rows: 3 }];
 
 // What a judge answers to a sheet of up to 4 cells, and the numbers that it leaves where 5 stood; `None` if the tables are refused.
-pub fn asked<J: Judge>(
+pub(super) fn asked<J: Judge>(
     judge: &mut J,
     rows: &[CellRow],
     parts: &[Part],
