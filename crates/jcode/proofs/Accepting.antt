@@ -1,23 +1,16 @@
 -- What reading answers is exactly what the notation allows.
-use Rattle.std.proofs.Common.{◌≡◌, ℕ, ◌-◌, ◌<◌, List, length, replicate, pos, Ok, Err, Result, sym, refl, ap, ◌∙◌, subst, arith}
-use Rattle.std.proofs.lemmas.List.{take_all, get_or_past, length-replicate}
-use Rattle.terms.specs.declared.row.Row.TheVariants.{Constant}
+use Rattle.std.proofs.Common.{◌≡◌, ℕ, ◌<◌, List, length, Ok, Err, Result, sym, refl, ap, ◌∙◌, subst, arith}
 use Rattle.jcode.specs.declared.reader.Outline.{Outline}
 use Rattle.jcode.specs.declared.refusal.ReadFault.{ReadFault}
 use Rattle.jcode.specs.declared.refusal.Refusal.TheVariants.{Table}
-use Rattle.jcode.specs.declared.statement.Statement.TheVariants as stands
-use Rattle.jcode.specs.declared.variable.Domain.TheVariants as domain
-use Rattle.jcode.specs.declared.variable.Variable.{Variable}
 use Rattle.jcode.specs.Bytes.{separator, slice}
 use Rattle.jcode.specs.Language.{◌⊙◌, Spelt}
-use Rattle.jcode.specs.Spelling.{Heading, Declarations, Statements, scope_with, Spells, Within, limits}
+use Rattle.jcode.specs.Spelling.{Heading, Declarations, Statements, scope_with, Spells, Within}
 use Rattle.jcode.specs.Pieces.{Answer, got, refused}
-use Rattle.jcode.specs.ReadUnits.{Located, Tables, tables, read_unit, outline, answered, left_by}
+use Rattle.jcode.specs.ReadUnits.{Located, Tables, read_unit, outline, answered, left_by}
 use Rattle.jcode.specs.Outgrown.{IsOutgrown}
 use Rattle.jcode.specs.Units.{JUnit, declared_in, retold, unit_in}
 use Rattle.jcode.specs.Notation.{sizes_of, unit_told, IsUnit, TellsUnit, AcceptsExactly}
-use Rattle.jcode.specs.Rows.{UnitRow}
-use Rattle.jcode.proofs.Outcomes.{got_what}
 use Rattle.jcode.proofs.Names.{length_map}
 use Rattle.jcode.proofs.Places.{parts, spelt_as, just_next}
 use Rattle.jcode.proofs.Agreement.{Finds, found, short}
@@ -26,6 +19,7 @@ use Rattle.jcode.proofs.Saying.{all_rows_told}
 use Rattle.jcode.proofs.Whole.{unit_agrees, unit_ends}
 use Rattle.jcode.proofs.Holding.{held_whole}
 use Rattle.jcode.proofs.Outgrowing.{unit_outgrows}
+use Rattle.jcode.proofs.Unique.{one_unit}
 
 -- what an answer was, by what is told of it
 answered_ok : (a : Answer Located) (o : Outline) → answered a ≡ Ok o → (u : Located) × (j : ℕ) × (a ≡ got u j) × (outline u j ≡ o)
@@ -100,53 +94,11 @@ module _ (bytes : List ℕ) (start : ℕ) (before : Tables) where
     outgrown : (place : ℕ) → result ≡ Err (record { refusal = Table; place = place }) → IsOutgrown (sizes_of before) bytes start place
     outgrown place e = unit_outgrows before bytes start place (answered_err answer _ (sym told ∙ e))
 
-abbrev variable : Variable
-variable = record { name = record { start = 0; length = 0 }; domain = domain.Integer }
-
-abbrev row : UnitRow
-row = Constant (pos 0)
-
--- tables as long as the limits
-abbrev long : Tables
-long = tables (replicate 32 variable) (replicate 200 stands.Hang) (replicate 2000 row)
-
-long_fits : (u : JUnit) → Within limits u → Within (sizes_of long) u
-long_fits u k =
-    let a = k.variables in
-    let b = k.statements in
-    let c = k.rows in
-    record {
-      variables = omega (arith, length-replicate 32 variable);
-      statements = omega (arith, length-replicate 200 stands.Hang);
-      rows = omega (arith, length-replicate 2000 row);
-    }
-
--- bytes that spell a unit are read as it
-spelt_whole : (u : JUnit) (w : List ℕ) → Spells u w → Within limits u → (a : Located) × (read_unit long w 0 ≡ got a (length w)) × (unit_in w a ≡ u)
-spelt_whole u w s k = by (reads w 0 long u (length w) is)
-  where
-    is : IsUnit w 0 (length w) u
-    is = record {
-      spelt = record { forward = omega arith; within = omega arith; belongs = subst (Spells u) (sym (take_all (length w - 0) w (omega arith))) s };
-      whole = passes_byte separator refl w (length w) ∙ ap separator (get_or_past w (length w) 0 (omega arith));
-      keeps = k;
-    }
-
-    by : Finds (sizes_of long) w (unit_in w) (Within (sizes_of long) u) (read_unit long w 0) u (length w) → (a : Located) × (read_unit long w 0 ≡ got a (length w)) × (unit_in w a ≡ u)
-    by (found a e eq) = (a, e, eq)
-    by (short place e lacks) = absurd (lacks (long_fits u k))
-
-one : (u v : JUnit) (w : List ℕ) → Spells u w → Within limits u → Spells v w → Within limits v → u ≡ v
-one u v w s k s′ k′ =
-    let a = spelt_whole u w s k in
-    let b = spelt_whole v w s′ k′ in
-    sym a.2 ∙ ap (unit_in w) (got_what (sym a.1 ∙ b.1)) ∙ b.2
-
 pub accepts : (bytes : List ℕ) (start : ℕ) (before : Tables) (result : Result Outline ReadFault) (after : Tables) → result ≡ answered (read_unit before bytes start) → after ≡ left_by before (read_unit before bytes start) → AcceptsExactly bytes start before result after
 accepts bytes start before result after told left = record {
   only = only bytes start before result after told left;
   all = all bytes start before result after told left;
-  one = one;
+  one = one_unit;
   refused = refuses bytes start before result after told left;
   outgrown = outgrown bytes start before result after told left;
 }

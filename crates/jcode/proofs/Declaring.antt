@@ -174,7 +174,7 @@ module _ (tables : Sizes) (bytes : List ℕ) where
       (after_agrees close_agrees end_agrees (λ b i j s stop. tt))
       (λ b i j s stop. tt)
 
-  declared_agrees : Agrees tables bytes read_declared (λ d. d) (plain HasDomain) Sep
+  pub declared_agrees : Agrees tables bytes read_declared (λ d. d) (plain HasDomain) Sep
   unfolding read_declared
   declared_agrees =
       renamed (plain HasDomain) (λ d. nested) (λ d. unnested) (λ t d n. n) (λ t d n. n)
@@ -196,7 +196,7 @@ module _ (tables : Sizes) (bytes : List ℕ) where
       let c = parts s in
       (c.0, c.1, begins_with bytes 58 [] (omega arith) (parts c.2).1)
 
-  no_name_follows : (d : Domain) {i j : ℕ} → Spelt (HasDomain d) bytes i j → Stops name_byte bytes i
+  pub no_name_follows : (d : Domain) {i j : ℕ} → Spelt (HasDomain d) bytes i j → Stops name_byte bytes i
   no_name_follows d s = let f = domain_follows d s in may_gap_stops bytes name_byte separator_no_name f.1 (ap name_byte f.2)
 
   abbrev told : Variable → Declared
@@ -269,7 +269,7 @@ module _ (tables : Sizes) (bytes : List ℕ) where
   abbrev most : ℕ
   most = min tables.variables 32
 
-  repeats : Repeats tables bytes opens_declaration (read_entry (full_by tables.variables 32)) (λ seen bytes at. got seen at) told Declares (Just []) (λ t n. n < t.variables) NeedsNew Sep Over most
+  pub repeats : Repeats tables bytes opens_declaration (read_entry (full_by tables.variables 32)) (λ seen bytes at. got seen at) told Declares (Just []) (λ t n. n < t.variables) NeedsNew Sep Over most
   repeats = record {
     items = entry_agrees (full_by tables.variables 32);
     ends = λ seen i all j l e. (sym (got_what e), subst (Spelt (Just []) bytes i) (got_next e) (spelt_none (Just []) i l refl));

@@ -32,4 +32,5 @@ pub mod Whole
 pub mod Holding
 pub mod Fairness
 pub mod Outgrowing
+pub mod Unique
 pub mod Accepting

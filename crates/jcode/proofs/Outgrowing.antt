@@ -422,5 +422,5 @@ module _ (t : Tables) (bytes : List ℕ) where
       let o = first_of ((read_heading ⊗ λ _. read_rest t) bytes start) (λ p j. got (located p) j) (λ p. got_fair (located p)) e in
       let h = past (λ s j. and_then (read_rest t bytes j) (λ p k. got (s, p) k)) (heading_fair bytes start) o in
       let l = heading_within t bytes start h.0 h.1 h.2 in
-      outgrown_rest (slice bytes h.0) ((heading_agrees t bytes).sound start h.0 h.1 (omega arith) h.2).spelt
+      outgrown_rest (slice bytes h.0) ((heading_agrees {tables = sizes}).sound start h.0 h.1 (omega arith) h.2).spelt
       (first_of (read_rest t bytes h.1) (λ p k. got (h.0, p) k) (λ p. got_fair (h.0, p)) h.3)

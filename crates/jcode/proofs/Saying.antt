@@ -35,7 +35,7 @@ use Rattle.jcode.proofs.Verbs.{label_begins, label_stops, spoken, verb_agrees}
 use Rattle.jcode.proofs.Statements.{rows_push}
 
 -- the word of a statement
-abbrev kind : {T : Type 0} → Sentence T → Verb
+abbrev pub kind : {T : Type 0} → Sentence T → Verb
 kind Hang = verb.Hang
 kind (Break t) = verb.Break
 kind (Require e t) = verb.Require
@@ -51,7 +51,7 @@ verb_is_word : (v : Verb) → is_word (verb_word v) ≡ true
 verb_is_word verb.Break = refl
 verb_is_word v = refl
 
-found_verb : (v : Verb) → verb_of (verb_word v) ≡ Some v
+pub found_verb : (v : Verb) → verb_of (verb_word v) ≡ Some v
 found_verb verb.Break = refl
 found_verb v = refl
 
@@ -187,7 +187,7 @@ module _ (tables : Sizes) (bytes : List ℕ) (sc : Scope) where
     speech_colonless verb.Join s sep = follows _ _ s (λ l h. gap_label l h)
 
     -- the word of a statement, as it is read
-    word_read : (s : Sentence (List ℕ)) {i j : ℕ} → Spelt (Says sc s) bytes i j → (k : ℕ) × Spelt ((speech (kind s)).spells s) bytes k j × (a : Span) × (read_word bytes i ≡ got a k) × (slice bytes a ≡ verb_word (kind s))
+    pub word_read : (s : Sentence (List ℕ)) {i j : ℕ} → Spelt (Says sc s) bytes i j → (k : ℕ) × Spelt ((speech (kind s)).spells s) bytes k j × (a : Span) × (read_word bytes i ≡ got a k) × (slice bytes a ≡ verb_word (kind s))
     word_read s {i = i} h =
         let c = parts (spelt_as (verb_back s) h) in
         let r = surely ((word_agrees {tables = tables}).complete i (verb_word (kind s)) c.0 (spelt_as (λ w e. (verb_is_word (kind s), e)) c.1) tt (speech_stops (kind s) s c.2)) in
@@ -270,7 +270,7 @@ module _ (tables : Sizes) (bytes : List ℕ) (sc : Scope) where
   abbrev most : ℕ
   most = min tables.statements 200
 
-  repeats : IsDistinct same_word sc.names → Repeats tables bytes goes_on (λ full seen. read_sentence sc tables.rows (full_by tables.statements 200) full (length (rows_all seen))) (λ seen bytes at. and_then (read_finish bytes at) (λ _ i. got seen i)) told (Says sc) (Just (codes "END") ⊙ End) (λ t n. n < t.statements) NeedsRows Sep Sep most
+  pub repeats : IsDistinct same_word sc.names → Repeats tables bytes goes_on (λ full seen. read_sentence sc tables.rows (full_by tables.statements 200) full (length (rows_all seen))) (λ seen bytes at. and_then (read_finish bytes at) (λ _ i. got seen i)) told (Says sc) (Just (codes "END") ⊙ End) (λ t n. n < t.statements) NeedsRows Sep Sep most
   repeats once = record {
     items = λ seen.
         subst (λ n. Agrees tables bytes (read_sentence sc tables.rows (full_by tables.statements 200) false (length (rows_all seen))) told (record { spells = Says sc; needs = λ t s. length (rows_of s) ≤ t.rows - n }) Sep) (ap length (sym (all_rows_told (slice bytes) seen)))

@@ -83,7 +83,7 @@ module _ (tables : Sizes) (bytes : List ℕ) where
       abbrev inner : Reader UnitRow
       inner = read_mark (codes "(") ▷ (read_may_gap ▷ read_row sc)
 
-      inner_agrees : Agrees tables bytes inner (λ r. r) (plain Began) (Stops head_byte bytes)
+      pub inner_agrees : Agrees tables bytes inner (λ r. r) (plain Began) (Stops head_byte bytes)
       inner_agrees =
           after_agrees (mark_agrees (codes "("))
           (after_agrees may_gap_agrees (row_agrees tables bytes sc once) (λ r i j s stop. row_stops tables bytes sc once r s))
@@ -154,7 +154,7 @@ module _ (tables : Sizes) (bytes : List ℕ) where
             (λ t p m. let e = length-append p.0 p.1 in (omega arith, omega arith))))
 
       -- after a row its operands or the closing bracket
-      operands_stop : (k n : ℕ) (rs : List UnitRow) {i j : ℕ} → Spelt (Operands (Term sc k) n true rs ⊙ Close) bytes i j → Stops head_byte bytes i
+      pub operands_stop : (k n : ℕ) (rs : List UnitRow) {i j : ℕ} → Spelt (Operands (Term sc k) n true rs ⊙ Close) bytes i j → Stops head_byte bytes i
       operands_stop k zero rs {i = i} s =
           let c = parts s in
           let same : i ≡ c.0 = (let f = c.1.forward in omega (arith, length_between bytes i c.0 c.1.within, ap length c.1.belongs.1)) in

@@ -55,7 +55,7 @@ module _ (sc : Scope) (used : ℕ) where
   spoken verb.Hang = said (λ _. Hang) (mark End)
 
 module _ (bytes : List ℕ) where
-  text_stops : (t : List ℕ) {i j : ℕ} → Spelt (Text t) bytes i j → Stops separator bytes i
+  pub text_stops : (t : List ℕ) {i j : ℕ} → Spelt (Text t) bytes i j → Stops separator bytes i
   text_stops t s = ap separator (begins_with bytes 40 (47 ∷ []) (omega arith) (parts s).1)
 
   pub label_begins : (l : ℕ) {i j : ℕ} → Spelt (Label l) bytes i j → digit (byte bytes i) ≡ true
@@ -68,7 +68,7 @@ module _ (tables : Sizes) (bytes : List ℕ) where
   abbrev Sep : ℕ → Type 0
   Sep = Stops separator bytes
 
-  text_end_agrees : Agrees tables bytes read_text_end (slice bytes) (plain (λ t. MayGap ⊙ Text t ⊙ End)) Sep
+  pub text_end_agrees : Agrees tables bytes read_text_end (slice bytes) (plain (λ t. MayGap ⊙ Text t ⊙ End)) Sep
   unfolding read_text_end
   text_end_agrees =
       after_agrees may_gap_agrees
@@ -81,11 +81,11 @@ module _ (tables : Sizes) (bytes : List ℕ) where
   labelled : Agrees tables bytes (read_label ◁ read_end) (λ l. l) (plain (λ l. Label l ⊙ End)) Sep
   labelled = before_agrees label_agrees end_agrees end_no_digit
 
-  label_end_agrees : Agrees tables bytes read_label_end (λ l. l) (plain (λ l. MayGap ⊙ Label l ⊙ End)) Sep
+  pub label_end_agrees : Agrees tables bytes read_label_end (λ l. l) (plain (λ l. MayGap ⊙ Label l ⊙ End)) Sep
   unfolding read_label_end
   label_end_agrees = after_agrees may_gap_agrees labelled (λ l i j s stop. label_stops bytes l (parts s).1)
 
-  gap_label_agrees : Agrees tables bytes read_gap_label (λ l. l) (plain (λ l. Gap ⊙ Label l ⊙ End)) Sep
+  pub gap_label_agrees : Agrees tables bytes read_gap_label (λ l. l) (plain (λ l. Gap ⊙ Label l ⊙ End)) Sep
   unfolding read_gap_label
   gap_label_agrees = after_agrees gap_agrees labelled (λ l i j s stop. label_stops bytes l (parts s).1)
 

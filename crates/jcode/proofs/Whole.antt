@@ -26,14 +26,8 @@ use Rattle.jcode.proofs.Words.{word_first, word_is, name_agrees, keyword_agrees}
 use Rattle.jcode.proofs.Declaring.{declarations, declarations_agree, declarations_begin}
 use Rattle.jcode.proofs.Saying.{statements, statements_agrees, statements_begin, statements_whole}
 
-module _ (t : Tables) (bytes : List ℕ) where
-  abbrev Sep : ℕ → Type 0
-  Sep = Stops separator bytes
-
-  abbrev sizes : Sizes
-  sizes = sizes_of t
-
-  pub heading_agrees : Agrees sizes bytes read_heading (slice bytes) (plain Heading) Sep
+module _ {tables : Sizes} {bytes : List ℕ} where
+  pub heading_agrees : Agrees tables bytes read_heading (slice bytes) (plain Heading) (Stops separator bytes)
   unfolding read_heading
   heading_agrees =
       after_agrees (keyword_agrees (codes "BEGIN") refl)
@@ -41,6 +35,13 @@ module _ (t : Tables) (bytes : List ℕ) where
       (before_agrees name_agrees end_agrees (λ b i j s stop. separator_no_name (byte bytes i) (white_begins bytes 10 refl s)))
       (λ n i j s stop. let c = parts s in letter_no_separator (byte bytes i) (begins bytes letter refl (λ w h. ap (λ w. letter (get_or w 0 0)) h.1 ∙ word_first n h.0.0) c.1)))
       (λ n i j s stop. separator_no_name (byte bytes i) (white_begins bytes 32 refl (parts s).1))
+
+module _ (t : Tables) (bytes : List ℕ) where
+  abbrev Sep : ℕ → Type 0
+  Sep = Stops separator bytes
+
+  abbrev sizes : Sizes
+  sizes = sizes_of t
 
   names_in : (vs : List Variable) → map (name_in bytes) vs ≡ names_of (map (declared_in bytes) vs)
   names_in [] = refl

@@ -41,7 +41,7 @@ pub record AcceptsExactly (bytes : List ℕ) (start : ℕ) (before : Tables) (re
   -- every unit that stands there and fits the tables is told
   pub all : (u : JUnit) (next : ℕ) → IsUnit bytes start next u → Within (sizes_of before) u → (o : Outline) × (result ≡ Ok o) × (o.next ≡ next) × (unit_told bytes o after ≡ u)
   -- no bytes spell two units
-  pub one : (u v : JUnit) (w : List ℕ) → Spells u w → Within limits u → Spells v w → Within limits v → u ≡ v
+  pub one : (u v : JUnit) (w : List ℕ) → Spells u w → Spells v w → u ≡ v
   -- where it is refused no unit stands, but one that does not fit the tables, and that is refused for them alone
   pub refused : (f : ReadFault) → result ≡ Err f → (u : JUnit) (next : ℕ) → IsUnit bytes start next u → (f.refusal ≡ Table) × (Within (sizes_of before) u → ⊥)
   -- the tables are blamed only where what stands before the place has outgrown them
