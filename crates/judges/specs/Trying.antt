@@ -17,8 +17,8 @@ use Rattle.reckoning.proofs.Mentioning.{value_agrees}
 use Rattle.sheets.specs.declared.cell.Cell.{Cell}
 use Rattle.sheets.specs.Sheets.{CellTerm, Condition, part, set_by, setting_term, is_below, is_bound, is_bounded, Sets, Keeps}
 use Rattle.sheets.specs.Valuations.{cell_in, Within, GoalAloneFalse, Falsifies, allows}
-use Rattle.sheets.specs.Judges.{Opinion, passed, failed, unsure, Sound}
-use Rattle.judges.specs.Tries.{mentions, occurs, gap, ascending, above, top, numbers, tries_from, ranges, ways, is_refuted, proposed, trier}
+use Rattle.sheets.specs.Judges.{passed, failed, unsure, Sound}
+use Rattle.judges.specs.Tries.{mentions, occurs, gap, ascending, above, top, numbers, tries_from, ranges, ways, is_refuted, proposed, trier, Settles}
 use Rattle.judges.specs.Keeping.{at_each, same_numbers, same_number_lem, within_length, within_at, set_value, part_true}
 use Rattle.judges.specs.Passing.{at_place, set_by_at}
 
@@ -256,13 +256,6 @@ tries_few s (c ∷ cs) lower =
     let all = parts_few (λ n. tries_from s cs (lower ++ n ∷ [])) w each (numbers s c.set_by c lower) in
     let few : length (numbers s c.set_by c lower) * w ≤ (gap c.low (top (occurs s.parts (length lower)) c.set_by c) + 1) * w = mul-le-mul_right w (numbers_few s c.set_by c lower) in
     omega arith
-
--- on each sheet that keeps the rules: what is proposed falsifies, and unless it is unsure it passes exactly what no valuation falsifies, after no more than 65536 tries
-pub record Settles (meaning : Condition → Opinion) : Type 0 where
-  pub proposes : (s : Condition) → Keeps s → (v : List ℤ) → meaning s ≡ failed v → Falsifies s v
-  pub passes : (s : Condition) → Keeps s → meaning s ≡ passed → (v : List ℤ) → Falsifies s v → ⊥
-  pub few : (s : Condition) → (meaning s ≢ unsure) → length (tries_from s s.cells []) ≤ 65536
-  pub passes_all : (s : Condition) → Keeps s → (meaning s ≢ unsure) → ((v : List ℤ) → Falsifies s v → ⊥) → meaning s ≡ passed
 
 module _ (s : Condition) (keeps : Keeps s) where
   abbrev first : Option (List ℤ)
