@@ -213,12 +213,21 @@ fn main() {
     let told = Told::of(&sheet);
     let mut valuation = vec![0; sheet.cells.len()];
     let mut stack = vec![0; sheet.rows.len()];
-    // In turn, and of each the least time.
-    let (mut proved, mut plain) = (Duration::MAX, Duration::MAX);
-    for _ in 0..100 {
-        proved = proved.min(timed(|| black_box(&told).ask()));
-        plain = plain.min(timed(|| ask(black_box(&sheet), &mut valuation, &mut stack)));
+    // In turn, so that what else the machine does weighs on both alike.
+    let mut pairs = Vec::new();
+    for _ in 0..200 {
+        let proved = timed(|| black_box(&told).ask());
+        let plain = timed(|| ask(black_box(&sheet), &mut valuation, &mut stack));
+        pairs.push((proved.as_secs_f64(), plain.as_secs_f64()));
     }
-    let ratio = proved.as_secs_f64() / plain.as_secs_f64();
-    println!("proved {proved:.2?}, plain Rust {plain:.2?}, ratio {ratio:.2}");
+    let proved = median(pairs.iter().map(|pair| pair.0));
+    let plain = median(pairs.iter().map(|pair| pair.1));
+    let ratio = median(pairs.iter().map(|pair| pair.0 / pair.1));
+    println!("proved {:.1} ms, plain Rust {:.1} ms, ratio {ratio:.2}", proved * 1e3, plain * 1e3);
+}
+
+fn median(numbers: impl Iterator<Item = f64>) -> f64 {
+    let mut sorted: Vec<f64> = numbers.collect();
+    sorted.sort_by(f64::total_cmp);
+    sorted[sorted.len() / 2]
 }

@@ -1,5 +1,5 @@
 -- The trier: which valuations it tries, in which order, and what it answers.
-use Rattle.std.specs.Prelude.{ℕ, zero, suc, ◌+◌, ◌*◌, Bool, false, cond, ◌&&◌, List, [], ◌∷◌, ◌++◌, length, ℤ, pos, ◌+ℤ◌, ◌-ℤ◌, Some, None, Option, ◌==◌, filter, find, nat_le, unsigned_abs}
+use Rattle.std.specs.Prelude.{ℕ, zero, suc, ◌+◌, ◌*◌, Bool, false, cond, ◌&&◌, List, [], ◌∷◌, ◌++◌, length, ℤ, pos, ◌+ℤ◌, ◌-ℤ◌, Some, None, Option, ◌==◌, filter, find, nat_le, unsigned_abs, ◌≡◌, ◌≢◌, ◌≤◌}
 use Rattle.std.specs.List.{flat_map, list_any}
 use Rattle.terms.specs.declared.row.Row.{Row}
 use Rattle.terms.specs.declared.row.Row.TheVariants.{Constant, Mention, Operator as Applied}
@@ -8,8 +8,8 @@ use Rattle.terms.specs.Terms.{value}
 use Rattle.reckoning.specs.declared.mark.Mark.{Mark}
 use Rattle.reckoning.specs.Ranges.{between}
 use Rattle.sheets.specs.declared.cell.Cell.{Cell}
-use Rattle.sheets.specs.Sheets.{CellTerm, Condition, part, setting_term}
-use Rattle.sheets.specs.Valuations.{cell_in, allows}
+use Rattle.sheets.specs.Sheets.{CellTerm, Condition, Keeps, part, setting_term}
+use Rattle.sheets.specs.Valuations.{cell_in, allows, Falsifies}
 use Rattle.sheets.specs.Judges.{Opinion, passed, failed, unsure}
 
 abbrev pub mentions : ℕ → Row ℕ → Bool
@@ -76,3 +76,13 @@ proposed (Some v) = failed v
 -- the first try that falsifies is proposed; with more than 65536 ways none is tried
 abbrev pub trier : Condition → Opinion
 trier s = cond (nat_le (ways (ranges s.parts 0 s.cells)) 65536) (proposed (find (λ v. is_refuted v s.parts) (tries_from s s.cells []))) unsure
+
+-- what a judge that goes by these tries owes beyond the law
+pub record Settles (meaning : Condition → Opinion) : Type 0 where
+  -- what it proposes falsifies
+  pub proposes : (s : Condition) → Keeps s → (v : List ℤ) → meaning s ≡ failed v → Falsifies s v
+  -- where it is not unsure it passes exactly what no valuation falsifies
+  pub passes : (s : Condition) → Keeps s → meaning s ≡ passed → (v : List ℤ) → Falsifies s v → ⊥
+  pub passes_all : (s : Condition) → Keeps s → (meaning s ≢ unsure) → ((v : List ℤ) → Falsifies s v → ⊥) → meaning s ≡ passed
+  -- and there are no more than 65536 tries then
+  pub few : (s : Condition) → (meaning s ≢ unsure) → length (tries_from s s.cells []) ≤ 65536

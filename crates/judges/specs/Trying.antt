@@ -1,13 +1,14 @@
 -- The laws of the trier: it passes only what no valuation falsifies, and what it proposes falsifies.
-use Rattle.std.specs.Prelude.{◌≡◌, ℕ, zero, suc, ◌<◌, ◌≤◌, ◌⊎◌, Bool, true, false, cond, ◌&&◌, List, [], ◌∷◌, ◌++◌, length, take, drop, ℤ, pos, ◌+ℤ◌, ◌≤ℤ◌, Some, None, Option, ◌≢◌, find, filter, int_le, slice_index_or, refl}
+use Rattle.std.specs.Prelude.{◌≡◌, ℕ, zero, suc, ◌<◌, ◌≤◌, ◌⊎◌, Bool, true, false, cond, ◌&&◌, List, [], ◌∷◌, ◌++◌, length, take, drop, ℤ, pos, ◌+ℤ◌, ◌≤ℤ◌, Some, None, Option, ◌≢◌, find, filter, int_le, slice_index_or, refl, ◌+◌, ◌*◌, nat_le}
 use Rattle.std.specs.List.{flat_map, list_any, list_all, slice_get}
 use Rattle.std.specs.Option.{option_or}
 use Rattle.std.proofs.Common.{sym, ap, ◌∙◌, subst, inl, inr, arith}
+use Rattle.std.proofs.Math.Nat.{mul-le-mul_right}
 use Rattle.std.proofs.lemmas.Int.{ints, by_lt_z}
-use Rattle.std.proofs.lemmas.List.{length-drop, take_all, take_more, length_push, get_or_append_left, get_or_push, get_or_past}
+use Rattle.std.proofs.lemmas.List.{length-append, length-drop, take_all, take_more, length_push, get_or_append_left, get_or_push, get_or_past}
 use Rattle.std.proofs.lemmas.Option.{slice_get-get_or}
 use Rattle.std.proofs.lemmas.List.Folds.{find-append}
-use Rattle.std.proofs.lemmas.Bool.{and_parts, and_from, or_left, or_right, or_cases, ltb-true, eqb-true, eq-eqb, cases_lt, true≢false}
+use Rattle.std.proofs.lemmas.Bool.{and_parts, and_from, or_left, or_right, or_cases, ltb-true, leb-true, eqb-true, eq-eqb, cases_lt, true≢false}
 use Rattle.terms.specs.declared.row.Row.TheVariants.{Constant, Mention, Operator as Applied}
 use Rattle.terms.specs.Terms.{value}
 use Rattle.reckoning.specs.Evaluation.{Mentions}
@@ -16,8 +17,8 @@ use Rattle.reckoning.proofs.Mentioning.{value_agrees}
 use Rattle.sheets.specs.declared.cell.Cell.{Cell}
 use Rattle.sheets.specs.Sheets.{CellTerm, Condition, part, set_by, setting_term, is_below, is_bound, is_bounded, Sets, Keeps}
 use Rattle.sheets.specs.Valuations.{cell_in, Within, GoalAloneFalse, Falsifies, allows}
-use Rattle.sheets.specs.Judges.{Opinion, passed, failed, unsure, Sound}
-use Rattle.judges.specs.Tries.{mentions, occurs, gap, ascending, above, numbers, tries_from, is_refuted, proposed, trier}
+use Rattle.sheets.specs.Judges.{passed, failed, unsure, Sound}
+use Rattle.judges.specs.Tries.{mentions, occurs, gap, ascending, above, top, numbers, tries_from, ranges, ways, is_refuted, proposed, trier, Settles}
 use Rattle.judges.specs.Keeping.{at_each, same_numbers, same_number_lem, within_length, within_at, set_value, part_true}
 use Rattle.judges.specs.Passing.{at_place, set_by_at}
 
@@ -229,11 +230,32 @@ module _ (s : Condition) (keeps : Keeps s) where
       falsifies cs (lower ++ one.0 ∷ []) w (t.2 ∙ ap (λ j. drop j s.cells) (sym (length_push lower one.0))) (omega (arith, t.0, length_push lower one.0))
       (subst (λ cs. Within cs (lower ++ one.0 ∷ [])) (sym more) (within_push (take i s.cells) lower c one.0 within inside)) one.2
 
--- on each sheet that keeps the rules: what is proposed falsifies, and unless it is unsure it passes exactly what no valuation falsifies
-pub record Settles (meaning : Condition → Opinion) : Type 0 where
-  pub proposes : (s : Condition) → Keeps s → (v : List ℤ) → meaning s ≡ failed v → Falsifies s v
-  pub passes : (s : Condition) → Keeps s → meaning s ≡ passed → (v : List ℤ) → Falsifies s v → ⊥
-  pub passes_all : (s : Condition) → Keeps s → (meaning s ≢ unsure) → ((v : List ℤ) → Falsifies s v → ⊥) → meaning s ≡ passed
+-- There are no more tries than ways to choose numbers.
+length-ascending : (n : ℤ) (k : ℕ) → length (ascending n k) ≡ k
+length-ascending n zero = refl
+length-ascending n (suc k) = ap suc (length-ascending (n +ℤ pos 1) k)
+
+parts_few : {X : Type 0} (f : ℤ → List X) (w : ℕ) → ((n : ℤ) → length (f n) ≤ w) → (ns : List ℤ) → length (flat_map f ns) ≤ length ns * w
+parts_few f w each [] = omega arith
+parts_few f w each (n ∷ ns) = let here = each n in let rest = parts_few f w each ns in omega (arith, length-append (f n) (flat_map f ns))
+
+-- a cell is tried with no more numbers than its range has
+numbers_few : (s : Condition) (o : Option ℕ) (c : Cell) (lower : List ℤ) → length (numbers s o c lower) ≤ gap c.low (top (occurs s.parts (length lower)) o c) + 1
+numbers_few s None c lower = omega (arith, length-ascending (c.low +ℤ pos 1) (gap c.low (top (occurs s.parts (length lower)) None c)))
+numbers_few s (Some p) c lower = go (allows c (value (cell_in lower) (setting_term (part s p))))
+  where
+    go : (b : Bool) → length (cond b (value (cell_in lower) (setting_term (part s p)) ∷ []) []) ≤ gap c.low c.low + 1
+    go true = omega arith
+    go false = omega arith
+
+tries_few : (s : Condition) (cs : List Cell) (lower : List ℤ) → length (tries_from s cs lower) ≤ ways (ranges s.parts (length lower) cs)
+tries_few s [] lower = omega arith
+tries_few s (c ∷ cs) lower =
+    let w = ways (ranges s.parts (length lower + 1) cs) in
+    let each : (n : ℤ) → length (tries_from s cs (lower ++ n ∷ [])) ≤ w = λ n. subst (λ i. length (tries_from s cs (lower ++ n ∷ [])) ≤ ways (ranges s.parts i cs)) (length_push lower n) (tries_few s cs (lower ++ n ∷ [])) in
+    let all = parts_few (λ n. tries_from s cs (lower ++ n ∷ [])) w each (numbers s c.set_by c lower) in
+    let few : length (numbers s c.set_by c lower) * w ≤ (gap c.low (top (occurs s.parts (length lower)) c.set_by c) + 1) * w = mul-le-mul_right w (numbers_few s c.set_by c lower) in
+    omega arith
 
 module _ (s : Condition) (keeps : Keeps s) where
   abbrev first : Option (List ℤ)
@@ -261,10 +283,15 @@ module _ (s : Condition) (keeps : Keeps s) where
   when_nothing (Some v) b sure lost = absurd (lost v refl)
   when_nothing None false sure lost = absurd (sure refl)
 
+when_few : (s : Condition) (b : Bool) → nat_le (ways (ranges s.parts 0 s.cells)) 65536 ≡ b → (cond b (proposed (find (λ v. is_refuted v s.parts) (tries_from s s.cells []))) unsure ≢ unsure) → length (tries_from s s.cells []) ≤ 65536
+when_few s true few sure = let most = leb-true (ways (ranges s.parts 0 s.cells)) 65536 few in omega (arith, tries_few s s.cells [])
+when_few s false few sure = absurd (sure refl)
+
 pub trier_settles : Settles trier
 trier_settles = record {
   proposes = λ s keeps v is. first_falsifies s keeps v (when_failed s keeps (first s keeps) _ v is);
   passes = λ s keeps is v f. one_is_found s keeps v f (when_passed s keeps (first s keeps) _ is);
+  few = λ s sure. when_few s (nat_le (ways (ranges s.parts 0 s.cells)) 65536) refl sure;
   passes_all = λ s keeps sure lost. when_nothing s keeps (first s keeps) _ sure (λ v e. lost v (first_falsifies s keeps v e));
 }
 
