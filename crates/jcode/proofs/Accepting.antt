@@ -1,5 +1,5 @@
 -- What reading answers is exactly what the notation allows.
-use Rattle.std.proofs.Common.{◌≡◌, ℕ, ◌-◌, List, length, replicate, pos, Ok, Err, Result, sym, refl, ap, ◌∙◌, subst, arith}
+use Rattle.std.proofs.Common.{◌≡◌, ℕ, ◌-◌, ◌<◌, List, length, replicate, pos, Ok, Err, Result, sym, refl, ap, ◌∙◌, subst, arith}
 use Rattle.std.proofs.lemmas.List.{take_all, get_or_past, length-replicate}
 use Rattle.terms.specs.declared.row.Row.TheVariants.{Constant}
 use Rattle.jcode.specs.declared.reader.Outline.{Outline}
@@ -9,7 +9,8 @@ use Rattle.jcode.specs.declared.statement.Statement.TheVariants as stands
 use Rattle.jcode.specs.declared.variable.Domain.TheVariants as domain
 use Rattle.jcode.specs.declared.variable.Variable.{Variable}
 use Rattle.jcode.specs.Bytes.{separator, slice}
-use Rattle.jcode.specs.Spelling.{Spells, Within, limits}
+use Rattle.jcode.specs.Language.{◌⊙◌, Spelt}
+use Rattle.jcode.specs.Spelling.{Heading, Declarations, Statements, scope_with, Spells, Within, limits}
 use Rattle.jcode.specs.Pieces.{Answer, got, refused}
 use Rattle.jcode.specs.ReadUnits.{Located, Tables, tables, read_unit, outline, answered, left_by}
 use Rattle.jcode.specs.Outgrown.{IsOutgrown}
@@ -18,6 +19,7 @@ use Rattle.jcode.specs.Notation.{sizes_of, unit_told, IsUnit, TellsUnit, Accepts
 use Rattle.jcode.specs.Rows.{UnitRow}
 use Rattle.jcode.proofs.Outcomes.{got_what}
 use Rattle.jcode.proofs.Names.{length_map}
+use Rattle.jcode.proofs.Places.{parts, spelt_as, just_next}
 use Rattle.jcode.proofs.Agreement.{Finds, found, short}
 use Rattle.jcode.proofs.Fronts.{passes_byte}
 use Rattle.jcode.proofs.Saying.{all_rows_told}
@@ -34,6 +36,16 @@ answered_err : (a : Answer Located) (f : ReadFault) → answered a ≡ Err f →
 answered_err (got u j) f e = let z : ◌≡◌ {A = ℕ} 0 1 = cc in absurd (omega arith)
 answered_err (refused g) f e = let same : g ≡ f = cc in ap refused same
 
+-- no unit is empty
+unit_forward : (bytes : List ℕ) (start : ℕ) (u : JUnit) (next : ℕ) → Spelt (Spells u) bytes start next → start < next
+unit_forward bytes start u next s =
+    let whole = parts (spelt_as {Q = Heading u.name ⊙ Declarations u.variables ⊙ Statements (scope_with u.variables) u.statements} (λ w h. h.1) s) in
+    let begin = parts whole.1 in
+    let five = just_next begin.1 in
+    let a = begin.2.forward in
+    let b = whole.2.forward in
+    omega arith
+
 module _ (bytes : List ℕ) (start : ℕ) (before : Tables) where
   abbrev answer : Answer Located
   answer = read_unit before bytes start
@@ -47,6 +59,8 @@ module _ (bytes : List ℕ) (start : ℕ) (before : Tables) where
       record {
         is = record { spelt = s.spelt; whole = passes_byte separator refl bytes j ∙ ends.1; keeps = s.keeps };
         fits = s.fits;
+        forward = unit_forward bytes start (unit_in bytes u) j s.spelt;
+        within = s.spelt.within;
         variables = sym (length_map (declared_in bytes) u.variables);
         statements = sym (length_map (retold (slice bytes)) u.sentences);
         rows = ap length (sym (all_rows_told (slice bytes) u.sentences));

@@ -67,23 +67,24 @@ module _ (tables : Sizes) (bytes : List ℕ) where
   abbrev pub Apart : {B : Type 0} → (ℕ → Type 0) → Production B → (ℕ → Type 0) → Type 0
   Apart {B} p Q q = (b : B) (i j : ℕ) → Spelt (Q.spells b) bytes i j → q j → p i
 
-  pub stands_as : {A B : Type 0} (view : A → B) {P : Production B} {i j k : ℕ} {a c : A} → got a j ≡ got c k → Stands P i (view a) j → Stands P i (view c) k
-  stands_as view {P = P} {i = i} e t = subst₂ (λ a j. Stands P i (view a) j) (got_what e) (got_next e) t
+module _ {tables : Sizes} {bytes : List ℕ} where
+  pub stands_as : {A B : Type 0} (view : A → B) {P : Production B} {i j k : ℕ} {a c : A} → got a j ≡ got c k → Stands tables bytes P i (view a) j → Stands tables bytes P i (view c) k
+  stands_as view {P = P} {i = i} e t = subst₂ (λ a j. Stands tables bytes P i (view a) j) (got_what e) (got_next e) t
 
-  pub finds_then : {A B C D : Type 0} {view : A → B} {fits : Type 0} {o : Answer A} {b : B} {j : ℕ} (view′ : C → D) (fits′ : Type 0) (d : D) (k : ℕ) (f : A → ℕ → Answer C) → Finds view fits o b j → (fits′ → fits) → ((a : A) → o ≡ got a j → view a ≡ b → Finds view′ fits′ (f a j) d k) → Finds view′ fits′ (and_then o f) d k
-  finds_then view′ fits′ d k f (found a e is) part next = subst (λ o. Finds view′ fits′ o d k) (sym (then_step f e)) (next a e is)
+  pub finds_then : {A B C D : Type 0} {view : A → B} {fits : Type 0} {o : Answer A} {b : B} {j : ℕ} (view′ : C → D) (fits′ : Type 0) (d : D) (k : ℕ) (f : A → ℕ → Answer C) → Finds tables bytes view fits o b j → (fits′ → fits) → ((a : A) → o ≡ got a j → view a ≡ b → Finds tables bytes view′ fits′ (f a j) d k) → Finds tables bytes view′ fits′ (and_then o f) d k
+  finds_then view′ fits′ d k f (found a e is) part next = subst (λ o. Finds tables bytes view′ fits′ o d k) (sym (then_step f e)) (next a e is)
   finds_then view′ fits′ d k f (short place e lacks) part next = short place (ap (λ o. and_then o f) e) (λ n. lacks (part n))
 
-  pub finds_as : {A B : Type 0} {view : A → B} {fits : Type 0} {o : Answer A} {b c : B} {j : ℕ} (fits′ : Type 0) → Finds view fits o b j → (fits′ → fits) → b ≡ c → Finds view fits′ o c j
+  pub finds_as : {A B : Type 0} {view : A → B} {fits : Type 0} {o : Answer A} {b c : B} {j : ℕ} (fits′ : Type 0) → Finds tables bytes view fits o b j → (fits′ → fits) → b ≡ c → Finds tables bytes view fits′ o c j
   finds_as fits′ (found a e is) part eq = found a e (is ∙ eq)
   finds_as fits′ (short place e lacks) part eq = short place e (λ m. lacks (part m))
 
   -- what fits any tables is found
-  pub surely : {A B : Type 0} {view : A → B} {o : Answer A} {b : B} {j : ℕ} → Finds view (Unit {0}) o b j → (a : A) × (o ≡ got a j) × (view a ≡ b)
+  pub surely : {A B : Type 0} {view : A → B} {o : Answer A} {b : B} {j : ℕ} → Finds tables bytes view (Unit {0}) o b j → (a : A) × (o ≡ got a j) × (view a ≡ b)
   surely (found a e is) = (a, e, is)
   surely (short place e lacks) = absurd (lacks tt)
 
-  pub after_agrees : {A B : Type 0} {r₁ : Reader (Unit {0})} {L : Language} {p : ℕ → Type 0} {r₂ : Reader A} {view : A → B} {Q : Production B} {q : ℕ → Type 0} → Agrees r₁ (λ u. u) (mark L) p → Agrees r₂ view Q q → Apart p Q q → Agrees (r₁ ▷ r₂) view (ahead L Q) q
+  pub after_agrees : {A B : Type 0} {r₁ : Reader (Unit {0})} {L : Language} {p : ℕ → Type 0} {r₂ : Reader A} {view : A → B} {Q : Production B} {q : ℕ → Type 0} → Agrees tables bytes r₁ (λ u. u) (mark L) p → Agrees tables bytes r₂ view Q q → Apart tables bytes p Q q → Agrees tables bytes (r₁ ▷ r₂) view (ahead L Q) q
   after_agrees {r₁ = r₁} {L = L} {r₂ = r₂} {view = view} {Q = Q} one two apart = record {
     sound = λ i a j l e.
         let t = then_got (r₁ bytes i) (λ _ i. r₂ bytes i) e in
@@ -95,7 +96,7 @@ module _ (tables : Sizes) (bytes : List ℕ) where
         finds_then view (Q.needs tables b) b j (λ _ i. r₂ bytes i) (one.complete i tt c.0 c.1 tt (apart b c.0 j c.2 stop)) (λ _. tt) (λ _ _ _. two.complete c.0 b j c.2 n stop);
   }
 
-  pub before_agrees : {A B : Type 0} {r₁ : Reader A} {view : A → B} {P : Production B} {p : ℕ → Type 0} {r₂ : Reader (Unit {0})} {L : Language} {q : ℕ → Type 0} → Agrees r₁ view P p → Agrees r₂ (λ u. u) (mark L) q → Apart p (mark L) q → Agrees (r₁ ◁ r₂) view (behind P L) q
+  pub before_agrees : {A B : Type 0} {r₁ : Reader A} {view : A → B} {P : Production B} {p : ℕ → Type 0} {r₂ : Reader (Unit {0})} {L : Language} {q : ℕ → Type 0} → Agrees tables bytes r₁ view P p → Agrees tables bytes r₂ (λ u. u) (mark L) q → Apart tables bytes p (mark L) q → Agrees tables bytes (r₁ ◁ r₂) view (behind P L) q
   before_agrees {r₁ = r₁} {view = view} {P = P} {r₂ = r₂} {L = L} one two apart = record {
     sound = λ i a j l e.
         let t = then_got (r₁ bytes i) (λ a i. and_then (r₂ bytes i) (λ _ j. got a j)) e in
@@ -109,7 +110,7 @@ module _ (tables : Sizes) (bytes : List ℕ) where
         (λ a _ is. finds_then view (P.needs tables b) b j (λ _ j. got a j) (two.complete c.0 tt j c.2 tt stop) (λ _. tt) (λ _ _ _. found a refl is));
   }
 
-  pub pair_agrees : {A B C D : Type 0} {r₁ : Reader A} {view : A → B} {P : Production B} {p : ℕ → Type 0} {r₂ : A → Reader C} {view′ : C → D} {q : ℕ → Type 0} (Q : B → Production D) → Agrees r₁ view P p → ((a : A) → P.needs limits (view a) → Agrees (r₂ a) view′ (Q (view a)) q) → ((b : B) → P.needs limits b → Apart p (Q b) q) → Agrees (r₁ ⊗ r₂) (λ c. (view c.0, view′ c.1)) (both P Q) q
+  pub pair_agrees : {A B C D : Type 0} {r₁ : Reader A} {view : A → B} {P : Production B} {p : ℕ → Type 0} {r₂ : A → Reader C} {view′ : C → D} {q : ℕ → Type 0} (Q : B → Production D) → Agrees tables bytes r₁ view P p → ((a : A) → P.needs limits (view a) → Agrees tables bytes (r₂ a) view′ (Q (view a)) q) → ((b : B) → P.needs limits b → Apart tables bytes p (Q b) q) → Agrees tables bytes (r₁ ⊗ r₂) (λ c. (view c.0, view′ c.1)) (both P Q) q
   pair_agrees {r₁ = r₁} {view = view} {P = P} {r₂ = r₂} {view′ = view′} {q = q} Q one two apart = record {
     sound = λ i c j l e.
         let t = then_got (r₁ bytes i) (λ a i. and_then (r₂ a bytes i) (λ b j. got (a, b) j)) e in
@@ -121,11 +122,11 @@ module _ (tables : Sizes) (bytes : List ℕ) where
         let c = parts s in
         finds_then (λ c. (view c.0, view′ c.1)) ((both P Q).needs tables b) b j (λ a i. and_then (r₂ a bytes i) (λ b j. got (a, b) j)) (one.complete i b.0 c.0 c.1 n.0 (apart b.0 n.0 b.1 c.0 j c.2 stop)) (λ m. m.0)
         (λ a _ is.
-        let h : Agrees (r₂ a) view′ (Q b.0) q = subst (λ x. Agrees (r₂ a) view′ (Q x) q) is (two a (subst (P.needs limits) (sym is) n.0)) in
+        let h : Agrees tables bytes (r₂ a) view′ (Q b.0) q = subst (λ x. Agrees tables bytes (r₂ a) view′ (Q x) q) is (two a (subst (P.needs limits) (sym is) n.0)) in
         finds_then (λ c. (view c.0, view′ c.1)) ((both P Q).needs tables b) b j (λ b j. got (a, b) j) (h.complete c.0 b.1 j c.2 n.1 stop) (λ m. m.1) (λ d _ eq. found (a, d) refl (λ k. (is k, eq k))));
   }
 
-  pub image_agrees : {A B C D : Type 0} {r : Reader A} {view : A → B} {P : Production B} {p : ℕ → Type 0} (g : A → C) (view′ : C → D) (f : B → D) (N : Sizes → D → Type 0) → Agrees r view P p → ((a : A) → view′ (g a) ≡ f (view a)) → ((t : Sizes) (b : B) → P.needs t b → N t (f b)) → ((t : Sizes) (b : B) → N t (f b) → P.needs t b) → Agrees (r giving g) view′ (image f P N) p
+  pub image_agrees : {A B C D : Type 0} {r : Reader A} {view : A → B} {P : Production B} {p : ℕ → Type 0} (g : A → C) (view′ : C → D) (f : B → D) (N : Sizes → D → Type 0) → Agrees tables bytes r view P p → ((a : A) → view′ (g a) ≡ f (view a)) → ((t : Sizes) (b : B) → P.needs t b → N t (f b)) → ((t : Sizes) (b : B) → N t (f b) → P.needs t b) → Agrees tables bytes (r giving g) view′ (image f P N) p
   image_agrees {r = r} {view = view} {P = P} g view′ f N one tied there back = record {
     sound = λ i c j l e.
         let t = then_got (r bytes i) (λ a i. got (g a) i) e in
@@ -142,11 +143,11 @@ module _ (tables : Sizes) (bytes : List ℕ) where
         finds_then view′ (N tables d) d j (λ a i. got (g a) i) h (λ m. back tables b.0 (subst (N tables) (sym b.1) m)) (λ a _ is. found (g a) refl (tied a ∙ ap f is ∙ b.1));
   }
 
-  pub weaken : {A B : Type 0} {r : Reader A} {view : A → B} {P : Production B} {p : ℕ → Type 0} (q : ℕ → Type 0) → ((j : ℕ) → q j → p j) → Agrees r view P p → Agrees r view P q
+  pub weaken : {A B : Type 0} {r : Reader A} {view : A → B} {P : Production B} {p : ℕ → Type 0} (q : ℕ → Type 0) → ((j : ℕ) → q j → p j) → Agrees tables bytes r view P p → Agrees tables bytes r view P q
   weaken q h one = record { sound = one.sound; complete = λ i b j s n stop. one.complete i b j s n (h j stop) }
 
   -- a reader that goes on only with what passes
-  pub kept_agrees : {A B : Type 0} {r : Reader A} {view : A → B} {P : Production B} {p : ℕ → Type 0} (T : B → Type 0) (f : ℕ → A → ℕ → Answer A) → ((i : ℕ) (a : A) (j : ℕ) → i ≤ length bytes → r bytes i ≡ got a j → T (view a) → f i a j ≡ got a j) → ((i : ℕ) (a : A) (j : ℕ) → i ≤ length bytes → r bytes i ≡ got a j → (c : A) (k : ℕ) → f i a j ≡ got c k → (got a j ≡ got c k) × T (view a)) → Agrees r view P p → Agrees (λ bytes i. and_then (r bytes i) (f i)) view (kept T P) p
+  pub kept_agrees : {A B : Type 0} {r : Reader A} {view : A → B} {P : Production B} {p : ℕ → Type 0} (T : B → Type 0) (f : ℕ → A → ℕ → Answer A) → ((i : ℕ) (a : A) (j : ℕ) → i ≤ length bytes → r bytes i ≡ got a j → T (view a) → f i a j ≡ got a j) → ((i : ℕ) (a : A) (j : ℕ) → i ≤ length bytes → r bytes i ≡ got a j → (c : A) (k : ℕ) → f i a j ≡ got c k → (got a j ≡ got c k) × T (view a)) → Agrees tables bytes r view P p → Agrees tables bytes (λ bytes i. and_then (r bytes i) (f i)) view (kept T P) p
   kept_agrees {r = r} {view = view} {P = P} T f passes passed one = record {
     sound = λ i c k l e.
         let t = then_got (r bytes i) (f i) e in
@@ -159,7 +160,7 @@ module _ (tables : Sizes) (bytes : List ℕ) where
   }
 
   -- which stands in what spells it as well
-  pub spelling : {A B : Type 0} {r : Reader A} {view : A → B} {P : Production B} {p : ℕ → Type 0} (T : B → Type 0) → Agrees r view (kept T P) p → Agrees r view (record { spells = λ b w. T b × P.spells b w; needs = P.needs }) p
+  pub spelling : {A B : Type 0} {r : Reader A} {view : A → B} {P : Production B} {p : ℕ → Type 0} (T : B → Type 0) → Agrees tables bytes r view (kept T P) p → Agrees tables bytes r view (record { spells = λ b w. T b × P.spells b w; needs = P.needs }) p
   spelling {view = view} {P = P} T one = record {
     sound = λ i a j l e.
         let s = one.sound i a j l e in
@@ -169,7 +170,7 @@ module _ (tables : Sizes) (bytes : List ℕ) where
   }
 
   -- the same production in other words
-  pub renamed : {A B : Type 0} {r : Reader A} {view : A → B} {P : Production B} {p : ℕ → Type 0} (Q : Production B) → ((b : B) (w : List ℕ) → P.spells b w → Q.spells b w) → ((b : B) (w : List ℕ) → Q.spells b w → P.spells b w) → ((t : Sizes) (b : B) → P.needs t b → Q.needs t b) → ((t : Sizes) (b : B) → Q.needs t b → P.needs t b) → Agrees r view P p → Agrees r view Q p
+  pub renamed : {A B : Type 0} {r : Reader A} {view : A → B} {P : Production B} {p : ℕ → Type 0} (Q : Production B) → ((b : B) (w : List ℕ) → P.spells b w → Q.spells b w) → ((b : B) (w : List ℕ) → Q.spells b w → P.spells b w) → ((t : Sizes) (b : B) → P.needs t b → Q.needs t b) → ((t : Sizes) (b : B) → Q.needs t b → P.needs t b) → Agrees tables bytes r view P p → Agrees tables bytes r view Q p
   renamed {view = view} Q there back needs_there needs_back one = record {
     sound = λ i a j l e.
         let s = one.sound i a j l e in
@@ -178,12 +179,12 @@ module _ (tables : Sizes) (bytes : List ℕ) where
   }
 
   -- a reader that does the same
-  pub same_agrees : {A B : Type 0} {r : Reader A} {view : A → B} {P : Production B} {p : ℕ → Type 0} (q : Reader A) → ((i : ℕ) → q bytes i ≡ r bytes i) → Agrees r view P p → Agrees q view P p
+  pub same_agrees : {A B : Type 0} {r : Reader A} {view : A → B} {P : Production B} {p : ℕ → Type 0} (q : Reader A) → ((i : ℕ) → q bytes i ≡ r bytes i) → Agrees tables bytes r view P p → Agrees tables bytes q view P p
   same_agrees {view = view} {P = P} q same one = record {
     sound = λ i a j l e. one.sound i a j l (sym (same i) ∙ e);
-    complete = λ i b j s n stop. subst (λ o. Finds view (P.needs tables b) o b j) (sym (same i)) (one.complete i b j s n stop);
+    complete = λ i b j s n stop. subst (λ o. Finds tables bytes view (P.needs tables b) o b j) (sym (same i)) (one.complete i b j s n stop);
   }
 
   -- a reader that always refuses reads nothing
-  pub nothing_agrees : {A B : Type 0} (view : A → B) (r : Refusal) (place : ℕ → ℕ) (p : ℕ → Type 0) → Agrees (λ bytes i. refuse r (place i)) view (plain (λ b w. ⊥)) p
+  pub nothing_agrees : {A B : Type 0} (view : A → B) (r : Refusal) (place : ℕ → ℕ) (p : ℕ → Type 0) → Agrees tables bytes (λ bytes i. refuse r (place i)) view (plain (λ b w. ⊥)) p
   nothing_agrees view r place p = record { sound = λ i a j l e. absurd (refused_got e); complete = λ i b j s n stop. absurd s.belongs }

@@ -51,13 +51,13 @@ module _ (tables : Sizes) (bytes : List ℕ) where
     sound = λ i d j l e.
         let t = then_got (read_number bytes i) (λ high j. cond (int_le low high) (got (Subrange low high) j) (refuse BadNumber i)) e in
         let u = when_got (int_le low t.0) (got (Subrange low t.0) t.1) _ t.3 in
-        let s = ((number_agrees tables bytes).sound i t.0 t.1 l t.2).spelt in
+        let s = ((number_agrees {tables = tables}).sound i t.0 t.1 l t.2).spelt in
         let is : Subrange low t.0 ≡ d = got_what u.1 in
         record { spelt = subst (Spelt (HighL low d) bytes i) (got_next u.1) (spelt_as (λ w h. (t.0, is, at_most low t.0 u.0, h)) s); keeps = tt; fits = tt };
     complete = λ i d j s n stop.
         let h = s.belongs in
-        finds_then tables bytes (λ d. d) (Unit {0}) d j (λ high j. cond (int_le low high) (got (Subrange low high) j) (refuse BadNumber i))
-        ((number_agrees tables bytes).complete i h.0 j (record { forward = s.forward; within = s.within; belongs = h.3 }) tt stop) (λ m. m)
+        finds_then (λ d. d) (Unit {0}) d j (λ high j. cond (int_le low high) (got (Subrange low high) j) (refuse BadNumber i))
+        ((number_agrees {tables = tables}).complete i h.0 j (record { forward = s.forward; within = s.within; belongs = h.3 }) tt stop) (λ m. m)
         (λ a _ is. found d (ap (λ z. cond (int_le low z) (got (Subrange low z) j) (refuse BadNumber i)) is ∙ cond-true _ _ _ (tested low h.0 h.2) ∙ ap (λ d. got d j) h.1) refl);
   }
     where
@@ -71,10 +71,10 @@ module _ (tables : Sizes) (bytes : List ℕ) where
   BoundsL d w = (low : ℤ) × (Gap ⊙ Number low ⊙ Gap ⊙ HighL low d) w
 
   low_agrees : Agrees tables bytes (read_gap ▷ read_number) (λ z. z) (plain (λ z. Gap ⊙ Number z)) (Stops digit bytes)
-  low_agrees = after_agrees tables bytes (gap_agrees tables bytes) (number_agrees tables bytes) (λ z i j s stop. number_stops tables bytes z s)
+  low_agrees = after_agrees gap_agrees number_agrees (λ z i j s stop. number_stops bytes z s)
 
   gap_high : (low : ℤ) → Agrees tables bytes (read_gap ▷ read_high low) (λ d. d) (plain (λ d. Gap ⊙ HighL low d)) (Stops digit bytes)
-  gap_high low = after_agrees tables bytes (gap_agrees tables bytes) (high_agrees low) (λ d i j s stop. number_stops tables bytes s.belongs.0 (record { forward = s.forward; within = s.within; belongs = s.belongs.3 }))
+  gap_high low = after_agrees gap_agrees (high_agrees low) (λ d i j s stop. number_stops bytes s.belongs.0 (record { forward = s.forward; within = s.within; belongs = s.belongs.3 }))
 
   bounds_agrees : Agrees tables bytes read_bounds (λ d. d) (plain BoundsL) (Stops digit bytes)
   unfolding read_bounds
@@ -88,7 +88,7 @@ module _ (tables : Sizes) (bytes : List ℕ) where
         let low = s.belongs.0 in
         let s₀ : Spelt ((Gap ⊙ Number low) ⊙ Gap ⊙ HighL low d) bytes i j = record { forward = s.forward; within = s.within; belongs = ungroup _ s.belongs.1 } in
         let c = parts s₀ in
-        finds_then tables bytes (λ d. d) (Unit {0}) d j (λ low i. (read_gap ▷ read_high low) bytes i)
+        finds_then (λ d. d) (Unit {0}) d j (λ low i. (read_gap ▷ read_high low) bytes i)
         (low_agrees.complete i low c.0 c.1 tt (separator_no_digit (byte bytes c.0) (white_begins bytes 32 refl (parts c.2).1))) (λ m. m)
         (λ a _ is. (gap_high a).complete c.0 d j (subst (λ low. Spelt (Gap ⊙ HighL low d) bytes c.0 j) (sym is) c.2) tt stop);
   }
@@ -115,18 +115,18 @@ module _ (tables : Sizes) (bytes : List ℕ) where
   domain_complete : (i : ℕ) (d : Domain) (j : ℕ) → Spelt (InDomain d) bytes i j → Stops name_byte bytes j → read_domain bytes i ≡ got d j
   unfolding read_domain
   domain_complete i Integer j s stop =
-      let r = surely tables bytes ((word_agrees tables bytes).complete i (codes "integer") j (spelt_as (λ w h. (refl, h)) s) tt stop) in
+      let r = surely ((word_agrees {tables = tables}).complete i (codes "integer") j (spelt_as (λ w h. (refl, h)) s) tt stop) in
       then_step (λ s j. by_domain i (domain_of (slice bytes s)) bytes j) r.1 ∙ ap (λ w. by_domain i (domain_of w) bytes j) r.2
   domain_complete i Boolean j s stop =
-      let r = surely tables bytes ((word_agrees tables bytes).complete i (codes "boolean") j (spelt_as (λ w h. (refl, h)) s) tt stop) in
+      let r = surely ((word_agrees {tables = tables}).complete i (codes "boolean") j (spelt_as (λ w h. (refl, h)) s) tt stop) in
       then_step (λ s j. by_domain i (domain_of (slice bytes s)) bytes j) r.1 ∙ ap (λ w. by_domain i (domain_of w) bytes j) r.2
   domain_complete i (Subrange low high) j s stop =
       let h = s.belongs in
       let s₀ : Spelt (Just (codes "subrange") ⊙ Gap ⊙ Number low ⊙ Gap ⊙ Number high) bytes i j = record { forward = s.forward; within = s.within; belongs = h.1 } in
       let c = parts s₀ in
-      let r = surely tables bytes ((word_agrees tables bytes).complete i (codes "subrange") c.0 (spelt_as (λ w h. (refl, h)) c.1) tt (separator_no_name (byte bytes c.0) (white_begins bytes 32 refl (parts c.2).1))) in
+      let r = surely ((word_agrees {tables = tables}).complete i (codes "subrange") c.0 (spelt_as (λ w h. (refl, h)) c.1) tt (separator_no_name (byte bytes c.0) (white_begins bytes 32 refl (parts c.2).1))) in
       let q : Spelt (BoundsL (Subrange low high)) bytes c.0 j = spelt_as (λ w x. (low, under (under (under (λ w n. (high, refl, h.0, n)))) w x)) c.2 in
-      let b = surely tables bytes (bounds_agrees.complete c.0 (Subrange low high) j q tt (name_no_digit (byte bytes j) stop)) in
+      let b = surely (bounds_agrees.complete c.0 (Subrange low high) j q tt (name_no_digit (byte bytes j) stop)) in
       then_step (λ s j. by_domain i (domain_of (slice bytes s)) bytes j) r.1 ∙ ap (λ w. by_domain i (domain_of w) bytes c.0) r.2 ∙ b.1 ∙ ap (λ d. got d j) b.2
 
   domain_agrees : Agrees tables bytes read_domain (λ d. d) (plain InDomain) (Stops name_byte bytes)
@@ -134,7 +134,7 @@ module _ (tables : Sizes) (bytes : List ℕ) where
   domain_agrees = record {
     sound = λ i d j l e.
         let t = then_got (read_word bytes i) (λ s j. by_domain i (domain_of (slice bytes s)) bytes j) e in
-        let p = ((word_agrees tables bytes).sound i t.0 t.1 l t.2).spelt in
+        let p = ((word_agrees {tables = tables}).sound i t.0 t.1 l t.2).spelt in
         record { spelt = domain_sound (domain_of (slice bytes t.0)) i i t.1 j (slice bytes t.0) d refl (spelt_as (λ w h. h.1) p) t.3; keeps = tt; fits = tt };
     complete = λ i d j s n stop. found d (domain_complete i d j s stop) refl;
   }
@@ -150,19 +150,19 @@ module _ (tables : Sizes) (bytes : List ℕ) where
   colon_agrees : Agrees tables bytes read_colon (λ u. u) (mark (MayGap ⊙ Just (codes ":") ⊙ MayGap ⊙ Just (codes "("))) Anywhere
   unfolding read_colon
   colon_agrees =
-      after_agrees tables bytes (may_gap_agrees tables bytes)
-      (after_agrees tables bytes (mark_agrees tables bytes (codes ":"))
-      (after_agrees tables bytes (may_gap_agrees tables bytes) (mark_agrees tables bytes (codes "(")) (λ b i j s stop. ap separator (begins_with bytes 40 [] (omega arith) s)))
+      after_agrees may_gap_agrees
+      (after_agrees (mark_agrees (codes ":"))
+      (after_agrees may_gap_agrees (mark_agrees (codes "(")) (λ b i j s stop. ap separator (begins_with bytes 40 [] (omega arith) s)))
       (λ b i j s stop. tt))
       (λ b i j s stop. ap separator (begins_with bytes 58 [] (omega arith) (parts s).1))
 
   class_agrees : Agrees tables bytes read_class (λ u. u) (mark (MayGap ⊙ Just (codes "variable") ⊙ MayGap ⊙ Just (codes "(") ⊙ MayGap)) Sep
   unfolding read_class
   class_agrees =
-      after_agrees tables bytes (may_gap_agrees tables bytes)
-      (after_agrees tables bytes (keyword_agrees tables bytes (codes "variable") refl)
-      (after_agrees tables bytes (may_gap_agrees tables bytes)
-      (after_agrees tables bytes (mark_agrees tables bytes (codes "(")) (may_gap_agrees tables bytes) (λ b i j s stop. tt))
+      after_agrees may_gap_agrees
+      (after_agrees (keyword_agrees (codes "variable") refl)
+      (after_agrees may_gap_agrees
+      (after_agrees (mark_agrees (codes "(")) may_gap_agrees (λ b i j s stop. tt))
       (λ b i j s stop. bracket_stops s))
       (λ b i j s stop. let c = parts s in may_gap_stops bytes name_byte separator_no_name c.1 (ap name_byte (begins_with bytes 40 [] (omega arith) (parts c.2).1))))
       (λ b i j s stop. ap separator (begins_with bytes 118 (codes "ariable") (omega arith) (parts s).1))
@@ -170,17 +170,17 @@ module _ (tables : Sizes) (bytes : List ℕ) where
   closing_agrees : Agrees tables bytes read_closing (λ u. u) (mark (Close ⊙ Close ⊙ End)) Sep
   unfolding read_closing
   closing_agrees =
-      after_agrees tables bytes (close_agrees tables bytes)
-      (after_agrees tables bytes (close_agrees tables bytes) (end_agrees tables bytes) (λ b i j s stop. tt))
+      after_agrees close_agrees
+      (after_agrees close_agrees end_agrees (λ b i j s stop. tt))
       (λ b i j s stop. tt)
 
   declared_agrees : Agrees tables bytes read_declared (λ d. d) (plain HasDomain) Sep
   unfolding read_declared
   declared_agrees =
-      renamed tables bytes (plain HasDomain) (λ d. nested) (λ d. unnested) (λ t d n. n) (λ t d n. n)
-      (after_agrees tables bytes colon_agrees
-      (after_agrees tables bytes class_agrees
-      (before_agrees tables bytes domain_agrees closing_agrees (λ b i j s stop. close_stops tables bytes name_byte separator_no_name refl (parts s).1))
+      renamed (plain HasDomain) (λ d. nested) (λ d. unnested) (λ t d n. n) (λ t d n. n)
+      (after_agrees colon_agrees
+      (after_agrees class_agrees
+      (before_agrees domain_agrees closing_agrees (λ b i j s stop. close_stops bytes name_byte separator_no_name refl (parts s).1))
       (λ d i j s stop. domain_begins d (parts s).1))
       (λ d i j s stop. tt))
     where
@@ -213,13 +213,13 @@ module _ (tables : Sizes) (bytes : List ℕ) where
   fresh_agrees : (seen : List Variable) → Agrees tables bytes (read_fresh seen) (slice bytes) (kept (IsNew seen) (plain Name)) (Stops name_byte bytes)
   unfolding read_fresh
   fresh_agrees seen =
-      same_agrees tables bytes (read_fresh seen) (λ i. refl)
-      (kept_agrees tables bytes (IsNew seen) (λ i s j. cond (list_any (λ v. same_word (slice bytes s) (name_in bytes v)) seen) (refuse Unknown i) (got s j))
+      same_agrees (read_fresh seen) (λ i. refl)
+      (kept_agrees (IsNew seen) (λ i s j. cond (list_any (λ v. same_word (slice bytes s) (name_in bytes v)) seen) (refuse Unknown i) (got s j))
       (λ i s j l e h. cond-false _ _ _ (names_any (slice bytes s) seen ∙ h))
       (λ i s j l e c k h.
       let u = unless_got (list_any (λ v. same_word (slice bytes s) (name_in bytes v)) seen) (got s j) _ h in
       (u.1, sym (names_any (slice bytes s) seen) ∙ u.0))
-      (name_agrees tables bytes))
+      name_agrees)
 
   abbrev NeedsNew : Sizes → List Declared → Declared → Type 0
   NeedsNew t seen d = Fresh same_word same_word_laws (λ d. d.name) seen d × Unit {0}
@@ -229,10 +229,10 @@ module _ (tables : Sizes) (bytes : List ℕ) where
 
   declaration_agrees : (seen : List Variable) → Agrees tables bytes (read_declaration seen) told (record { spells = Declares; needs = λ t. NeedsNew t (map told seen) }) Sep
   declaration_agrees seen =
-      renamed tables bytes (record { spells = Declares; needs = λ t. NeedsNew t (map told seen) })
+      renamed (record { spells = Declares; needs = λ t. NeedsNew t (map told seen) })
       (λ d w h. subst (λ d. Declares d w) h.1 h.2) (λ d w h. ((d.name, d.domain), refl, h)) (λ t d n. n) (λ t d n. n)
-      (image_agrees tables bytes (λ p. record { name = p.0; domain = p.1 }) told made (λ t. NeedsNew t (map told seen))
-      (pair_agrees tables bytes (λ _. plain HasDomain) (fresh_agrees seen) (λ s _. declared_agrees) (λ n _ d i j s stop. no_name_follows d s))
+      (image_agrees (λ p. record { name = p.0; domain = p.1 }) told made (λ t. NeedsNew t (map told seen))
+      (pair_agrees (λ _. plain HasDomain) (fresh_agrees seen) (λ s _. declared_agrees) (λ n _ d i j s stop. no_name_follows d s))
       (λ p. refl) (λ t p n. n.0) (λ t p n. (n, tt)))
 
   pub entry_agrees : (r : Refusal) (seen : List Variable) → Agrees tables bytes (read_entry r false seen) told (record { spells = Declares; needs = λ t. NeedsNew t (map told seen) }) Sep
@@ -250,15 +250,15 @@ module _ (tables : Sizes) (bytes : List ℕ) where
   unfolding read_entry
   no_room r seen d i j s =
       let c = parts s in
-      then_step (λ s j. refuse r i) (surely tables bytes ((name_agrees tables bytes).complete i d.name c.0 c.1 tt (no_name_follows d.domain c.2))).1
+      then_step (λ s j. refuse r i) (surely ((name_agrees {tables = tables}).complete i d.name c.0 c.1 tt (no_name_follows d.domain c.2))).1
 
   opens : (d : Declared) {i j : ℕ} → Spelt (Declares d) bytes i j → opens_declaration bytes i ≡ true
   opens d {i = i} s =
       let c = parts s in
-      let r = surely tables bytes ((word_agrees tables bytes).complete i d.name c.0 (spelt_as (λ w h. (h.0.0, h.1)) c.1) tt (no_name_follows d.domain c.2)) in
+      let r = surely ((word_agrees {tables = tables}).complete i d.name c.0 (spelt_as (λ w h. (h.0.0, h.1)) c.1) tt (no_name_follows d.domain c.2)) in
       let f = domain_follows d.domain c.2 in
       ap (colon_after bytes) r.1
-      ∙ ap (stands 58 bytes) (past_gap_is tables bytes c.0 f.0 f.1 (ap separator f.2))
+      ∙ ap (stands 58 bytes) (past_gap_is bytes c.0 f.0 f.1 (ap separator f.2))
       ∙ stands_byte 58 (omega arith) bytes f.0
       ∙ ap (λ b. eqb b 58) f.2
 
@@ -295,10 +295,10 @@ module _ (tables : Sizes) (bytes : List ℕ) where
   pub declarations_agree : Agrees tables bytes (read_declarations tables.variables most []) (map told) declarations Over
   unfolding IsDistinct
   declarations_agree =
-      renamed tables bytes declarations (λ ds w h. h) (λ ds w h. h)
+      renamed declarations (λ ds w h. h) (λ ds w h. h)
       (λ t ds n. let r = fresh_there same_word same_word_laws (λ d. d.name) t.variables 0 [] ds tt n in let l = r.0 in (omega arith, r.1))
       (λ t ds n. let l = n.0 in fresh_back same_word same_word_laws (λ d. d.name) t.variables 0 [] ds (omega arith) n.1)
-      (many_agrees tables bytes opens_declaration (read_entry (full_by tables.variables 32)) (λ seen bytes at. got seen at) told Declares (Just []) (λ t n. n < t.variables) NeedsNew Sep Over most repeats)
+      (many_agrees repeats)
 
   pub declarations_begin : (ds : List Declared) {i j : ℕ} → Spelt (Declarations ds) bytes i j → Over j → Sep i
-  declarations_begin ds s stop = many_stops tables bytes opens_declaration (read_entry (full_by tables.variables 32)) (λ seen bytes at. got seen at) told Declares (Just []) (λ t n. n < t.variables) NeedsNew Sep Over most repeats ds _ _ s stop
+  declarations_begin ds s stop = many_stops repeats ds _ _ s stop

@@ -41,7 +41,7 @@ module _ (tables : Sizes) (bytes : List ℕ) (sc : Scope) (once : IsDistinct sam
   unseen_agrees : (seen : List ℕ) → Agrees tables bytes (read_unseen sc false seen) (λ v. v) (record { spells = Variable sc; needs = λ t. NeedsFresh t seen }) (Stops name_byte bytes)
   unfolding read_unseen
   unseen_agrees seen =
-      kept_agrees tables bytes (Fresh nat_eq nat_eq_equiv (λ v. v) seen) (λ i v j. cond (member v seen) (refuse Unknown i) (got v j))
+      kept_agrees (Fresh nat_eq nat_eq_equiv (λ v. v) seen) (λ i v j. cond (member v seen) (refuse Unknown i) (got v j))
       (λ i v j l e h. cond-false _ _ _ (member_is v seen ∙ h))
       (λ i v j l e c k h. let u = unless_got (member v seen) (got v j) _ h in (u.1, sym (member_is v seen) ∙ u.0))
       (variable_agrees tables bytes sc once)
@@ -57,21 +57,21 @@ module _ (tables : Sizes) (bytes : List ℕ) (sc : Scope) (once : IsDistinct sam
   repeats = record {
     items = λ seen.
         subst (λ s. Agrees tables bytes (read_gap ▷ read_unseen sc false seen) (λ v. v) (record { spells = λ v. Gap ⊙ Variable sc v; needs = λ t. NeedsFresh t s }) (Stops name_byte bytes)) (sym (map-id seen))
-        (after_agrees tables bytes (gap_agrees tables bytes) (unseen_agrees seen) (λ v i j s stop. variable_stops tables bytes sc once v s));
+        (after_agrees gap_agrees (unseen_agrees seen) (λ v i j s stop. variable_stops bytes sc v s));
     ends = λ seen i all j l e.
         let t = then_got (read_close bytes i) (λ _ i. got seen i) e in
-        (sym (got_what t.3), subst (Spelt Close bytes i) (got_next t.3) ((close_agrees tables bytes).sound i t.0 t.1 l t.2).spelt);
-    ended = λ seen i j s stop. ap (λ o. and_then o (λ _ i. got seen i)) (surely tables bytes ((close_agrees tables bytes).complete i tt j s tt tt)).1;
+        (sym (got_what t.3), subst (Spelt Close bytes i) (got_next t.3) ((close_agrees {tables = tables}).sound i t.0 t.1 l t.2).spelt);
+    ended = λ seen i j s stop. ap (λ o. and_then o (λ _ i. got seen i)) (surely ((close_agrees {tables = tables}).complete i tt j s tt tt)).1;
     item_stops = λ v i j s. separator_no_name (byte bytes i) (white_begins bytes 32 refl (parts s).1);
-    end_stops = λ i j s stop. close_stops tables bytes name_byte separator_no_name refl s;
+    end_stops = λ i j s stop. close_stops bytes name_byte separator_no_name refl s;
     goes_on = λ v i j s.
         let c = parts s in
-        let first = variable_begins tables bytes sc once v c.2 in
-        let at = past_gap_is tables bytes i c.0 (spelt_as (λ w h. inr h) c.1) (letter_no_separator (byte bytes c.0) first) in
+        let first = variable_begins bytes sc v c.2 in
+        let at = past_gap_is bytes i c.0 (spelt_as (λ w h. inr h) c.1) (letter_no_separator (byte bytes c.0) first) in
         not_from_false _ (ap (stands 41 bytes) at ∙ stands_byte 41 (omega arith) bytes c.0 ∙ letter_is_not (byte bytes c.0) 41 first (omega arith));
     goes_off = λ i j s stop.
         let c = parts s in
-        let at = past_gap_is tables bytes i c.0 c.1 (ap separator (begins_with bytes 41 [] (omega arith) c.2)) in
+        let at = past_gap_is bytes i c.0 c.1 (ap separator (begins_with bytes 41 [] (omega arith) c.2)) in
         not_from_true _ (ap (stands 41 bytes) at ∙ byte_stands bytes 41 (omega arith) c.2);
     full = λ seen i a j e. unseen_refused seen i a j e;
     opened = λ n h. (h, h);
@@ -102,11 +102,11 @@ module _ (tables : Sizes) (bytes : List ℕ) (sc : Scope) (once : IsDistinct sam
   names_agrees = record {
     sound = λ i vs j l e.
         ⊎_elim
-        (λ t. stands_as tables bytes (λ vs. vs) {P = kept NoneTwice (plain (Names sc))} t.1 (record { spelt = byte_spelt bytes 41 (omega arith) i l t.0; keeps = ((omega arith, tt), tt); fits = ((omega arith, tt), tt) }))
+        (λ t. stands_as (λ vs. vs) {P = kept NoneTwice (plain (Names sc))} t.1 (record { spelt = byte_spelt bytes 41 (omega arith) i l t.0; keeps = ((omega arith, tt), tt); fits = ((omega arith, tt), tt) }))
         (λ t.
         let u = then_got (read_variable sc bytes i) (λ v j. read_more sc 7 (v ∷ []) bytes j) t.1 in
         let s = ((variable_agrees tables bytes sc once).sound i u.0 u.1 l u.2).spelt in
-        let m = many_sound tables bytes goes_on (λ full seen. read_gap ▷ read_unseen sc full seen) (λ seen. read_close giving (λ _. seen)) (λ v. v) (λ v. Gap ⊙ Variable sc v) Close (λ t n. n < 8) NeedsFresh (Stops name_byte bytes) Anywhere 8 repeats 7 1 (u.0 ∷ []) u.1 vs j (omega arith) s.within u.3 in
+        let m = many_sound repeats 7 1 (u.0 ∷ []) u.1 vs j (omega arith) s.within u.3 in
         let is : vs ≡ u.0 ∷ m.rest = sym (map-id vs) ∙ m.is in
         let n = twice_there u.0 m.rest m.keeps in
         subst (λ vs. Stands tables bytes (kept NoneTwice (plain (Names sc))) i vs j) (sym is) (record { spelt = joins s m.spelt; keeps = (n, tt); fits = (n, tt) }))
@@ -118,18 +118,18 @@ module _ (tables : Sizes) (bytes : List ℕ) (sc : Scope) (once : IsDistinct sam
       by i [] j s n = found [] (cond-true _ _ _ (byte_stands bytes 41 (omega arith) s) ∙ ap (got []) (just_next s)) refl
       by i (v ∷ vs) j s n =
           let c = parts s in
-          let first = variable_begins tables bytes sc once v c.1 in
+          let first = variable_begins bytes sc v c.1 in
           let open_list : stands 41 bytes i ≡ false = stands_byte 41 (omega arith) bytes i ∙ letter_is_not (byte bytes i) 41 first (omega arith) in
           let more : Stops name_byte bytes c.0 = after_first vs c.2 in
           let fresh = twice_back v vs n in
           subst (λ o. Finds tables bytes (λ vs. vs) (NoneTwice (v ∷ vs) × Unit {0}) o (v ∷ vs) j) (sym (cond-false _ _ _ open_list))
-          (finds_then tables bytes (λ vs. vs) (NoneTwice (v ∷ vs) × Unit {0}) (v ∷ vs) j (λ v j. read_more sc 7 (v ∷ []) bytes j)
+          (finds_then (λ vs. vs) (NoneTwice (v ∷ vs) × Unit {0}) (v ∷ vs) j (λ v j. read_more sc 7 (v ∷ []) bytes j)
           ((variable_agrees tables bytes sc once).complete i v c.0 c.1 tt more) (λ m. tt)
           (λ a _ is.
-          listed a v vs is (many_complete tables bytes goes_on (λ full seen. read_gap ▷ read_unseen sc full seen) (λ seen. read_close giving (λ _. seen)) (λ v. v) (λ v. Gap ⊙ Variable sc v) Close (λ t n. n < 8) NeedsFresh (Stops name_byte bytes) Anywhere 8 repeats 7 1 (a ∷ []) c.0 vs j (omega arith) c.2 (subst (λ a. SomeFresh a vs) (sym is) fresh) tt)))
+          listed a v vs is (many_complete repeats 7 1 (a ∷ []) c.0 vs j (omega arith) c.2 (subst (λ a. SomeFresh a vs) (sym is) fresh) tt)))
         where
           after_first : (vs : List ℕ) {i j : ℕ} → Spelt (MoreNames sc vs) bytes i j → Stops name_byte bytes i
-          after_first [] s = close_stops tables bytes name_byte separator_no_name refl s
+          after_first [] s = close_stops bytes name_byte separator_no_name refl s
           after_first (v ∷ vs) {i = i} s = separator_no_name (byte bytes i) (white_begins bytes 32 refl (parts (parts s).1).1)
 
           listed : (a v : ℕ) (vs : List ℕ) → a ≡ v → {o : Answer (List ℕ)} {j : ℕ} → Finds tables bytes (map (λ v. v)) (SomeFresh a vs) o (a ∷ vs) j → Finds tables bytes (λ vs. vs) (NoneTwice (v ∷ vs) × Unit {0}) o (v ∷ vs) j
@@ -138,26 +138,26 @@ module _ (tables : Sizes) (bytes : List ℕ) (sc : Scope) (once : IsDistinct sam
 
   names_stop : (vs : List ℕ) {i j : ℕ} → Spelt (Names sc vs) bytes i j → Stops separator bytes i
   names_stop [] s = ap separator (begins_with bytes 41 [] (omega arith) s)
-  names_stop (v ∷ vs) s = variable_stops tables bytes sc once v (parts s).1
+  names_stop (v ∷ vs) s = variable_stops bytes sc v (parts s).1
 
   pub listing_agrees : Agrees tables bytes (read_listing sc) (λ vs. vs) (plain (Listing sc)) Anywhere
   unfolding read_listing
   listing_agrees =
-      renamed tables bytes (plain (Listing sc)) (λ vs w h. (h.0.0, h.0.1, h.1)) (λ vs w h. ((h.0, h.1), h.2)) (λ t vs n. n) (λ t vs n. n)
-      (spelling tables bytes {P = plain (λ vs. Just (codes "(") ⊙ MayGap ⊙ Names sc vs)} NoneTwice
-      (after_agrees tables bytes (mark_agrees tables bytes (codes "("))
-      (after_agrees tables bytes (may_gap_agrees tables bytes) names_agrees (λ vs i j s stop. names_stop vs s))
+      renamed (plain (Listing sc)) (λ vs w h. (h.0.0, h.0.1, h.1)) (λ vs w h. ((h.0, h.1), h.2)) (λ t vs n. n) (λ t vs n. n)
+      (spelling {P = plain (λ vs. Just (codes "(") ⊙ MayGap ⊙ Names sc vs)} NoneTwice
+      (after_agrees (mark_agrees (codes "("))
+      (after_agrees may_gap_agrees names_agrees (λ vs i j s stop. names_stop vs s))
       (λ vs i j s stop. tt)))
 
   close_after_name : (v : ℕ) {i j : ℕ} → Spelt (Variable sc v ⊙ Close) bytes i j → Stops separator bytes i
-  close_after_name v s = variable_stops tables bytes sc once v (parts s).1
+  close_after_name v s = variable_stops bytes sc v (parts s).1
 
   pub single_agrees : Agrees tables bytes (read_single sc) (λ v. v) (plain (λ v. Bracketed (Variable sc v))) Anywhere
   unfolding read_single
   single_agrees =
-      after_agrees tables bytes (mark_agrees tables bytes (codes "("))
-      (after_agrees tables bytes (may_gap_agrees tables bytes)
-      (before_agrees tables bytes (variable_agrees tables bytes sc once) (close_agrees tables bytes) (λ b i j s stop. close_stops tables bytes name_byte separator_no_name refl s))
+      after_agrees (mark_agrees (codes "("))
+      (after_agrees may_gap_agrees
+      (before_agrees (variable_agrees tables bytes sc once) close_agrees (λ b i j s stop. close_stops bytes name_byte separator_no_name refl s))
       (λ v i j s stop. close_after_name v s))
       (λ v i j s stop. tt)
 
@@ -170,7 +170,7 @@ module _ (tables : Sizes) (bytes : List ℕ) (sc : Scope) (once : IsDistinct sam
         let s = ((variable_agrees tables bytes sc once).sound i t.0 t.1 l t.2).spelt in
         record { spelt = subst (Spelt (Variable sc v) bytes i) (got_next u.1) (subst (λ v. Spelt (Variable sc v) bytes i t.1) (eqb-true t.0 v u.0) s); keeps = tt; fits = tt };
     complete = λ i b j s n stop.
-        finds_then tables bytes (λ u. u) (Unit {0}) tt j (λ u j. cond (eqb u v) (got tt j) (refuse Unknown i))
+        finds_then (λ u. u) (Unit {0}) tt j (λ u j. cond (eqb u v) (got tt j) (refuse Unknown i))
         ((variable_agrees tables bytes sc once).complete i v j s tt stop) (λ m. tt)
         (λ a _ is. found tt (cond-true _ _ _ (eq-eqb a v is)) refl);
   }
@@ -178,19 +178,19 @@ module _ (tables : Sizes) (bytes : List ℕ) (sc : Scope) (once : IsDistinct sam
   repeated_agrees : (v : ℕ) → Agrees tables bytes (read_repeated sc v) (λ u. u) (mark (MayGap ⊙ Bracketed (Variable sc v))) Anywhere
   unfolding read_repeated
   repeated_agrees v =
-      after_agrees tables bytes (may_gap_agrees tables bytes)
-      (after_agrees tables bytes (mark_agrees tables bytes (codes "("))
-      (after_agrees tables bytes (may_gap_agrees tables bytes)
-      (after_agrees tables bytes (again_agrees v) (close_agrees tables bytes) (λ b i j s stop. close_stops tables bytes name_byte separator_no_name refl s))
+      after_agrees may_gap_agrees
+      (after_agrees (mark_agrees (codes "("))
+      (after_agrees may_gap_agrees
+      (after_agrees (again_agrees v) close_agrees (λ b i j s stop. close_stops bytes name_byte separator_no_name refl s))
       (λ b i j s stop. close_after_name v s))
       (λ b i j s stop. tt))
       (λ b i j s stop. ap separator (begins_with bytes 40 [] (omega arith) (parts s).1))
 
   pub target_agrees : Agrees tables bytes (read_target sc) (λ v. v) (plain (Target sc)) Anywhere
   target_agrees =
-      renamed tables bytes (plain (Target sc)) (λ v w h. subst (λ v. Target sc v w) h.1 h.2) (λ v w h. ((v, tt), refl, h)) (λ t v n. n) (λ t v n. n)
-      (image_agrees tables bytes (λ p. p.0) (λ v. v) (λ p. p.0) (λ t v. Unit {0})
-      (pair_agrees tables bytes (λ v. mark (MayGap ⊙ Bracketed (Variable sc v))) single_agrees (λ v _. repeated_agrees v) (λ v _ b i j s stop. tt))
+      renamed (plain (Target sc)) (λ v w h. subst (λ v. Target sc v w) h.1 h.2) (λ v w h. ((v, tt), refl, h)) (λ t v n. n) (λ t v n. n)
+      (image_agrees (λ p. p.0) (λ v. v) (λ p. p.0) (λ t v. Unit {0})
+      (pair_agrees (λ v. mark (MayGap ⊙ Bracketed (Variable sc v))) single_agrees (λ v _. repeated_agrees v) (λ v _ b i j s stop. tt))
       (λ p. refl) (λ t p n. tt) (λ t p n. (tt, tt)))
 
   pub target_stops : (v : ℕ) {i j : ℕ} → Spelt (Target sc v) bytes i j → Stops separator bytes i

@@ -68,27 +68,11 @@ module _ (bytes : List ℕ) (last : ℕ) (more : 0 < last) (sep : separator last
       let e : ends_in last (slice bytes (run_at separator bytes i)) ≡ true = ap (ends_in last) (front_is separator bytes i j all stop) ∙ white_ends last more _ s.belongs in
       ((run_at separator bytes i).length, ap (λ b. then_some b (run_at separator bytes i).length) e, front_next separator bytes i j all stop)
 
-module _ (tables : Sizes) (bytes : List ℕ) where
+module _ (bytes : List ℕ) where
   -- what is read between places
   read_where : (last i : ℕ) (o : Option ℕ) → white last bytes i ≡ o → {j : ℕ} → read_white last bytes i ≡ got tt j → (n : ℕ) × (o ≡ Some n) × (i + n ≡ j)
   read_where last i (Some n) e h = (n, refl, got_next (sym (ap (passed i) e) ∙ h))
   read_where last i None e h = absurd (refused_got (sym (ap (passed i) e) ∙ h))
-
-  pub white_agrees : (last : ℕ) → 0 < last → separator last ≡ true → Agrees tables bytes (read_white last) (λ u. u) (mark (White last)) (Stops separator bytes)
-  white_agrees last more sep = record {
-    sound = λ i a j l e.
-        let w = read_where last i (white last bytes i) refl e in
-        record { spelt = subst (Spelt (White last) bytes i) w.2 (white_spelt bytes last more sep i l w.0 w.1); keeps = tt; fits = tt };
-    complete = λ i b j s n stop.
-        let w = white_read bytes last more sep i j s stop in
-        found tt (ap (passed i) w.1 ∙ ap (got tt) w.2) refl;
-  }
-
-  pub gap_agrees : Agrees tables bytes read_gap (λ u. u) (mark Gap) (Stops separator bytes)
-  gap_agrees = white_agrees 32 (omega arith) refl
-
-  pub end_agrees : Agrees tables bytes read_end (λ u. u) (mark End) (Stops separator bytes)
-  end_agrees = white_agrees 10 (omega arith) refl
 
   -- the place past a gap that may stand
   module _ (i : ℕ) where
@@ -112,30 +96,6 @@ module _ (tables : Sizes) (bytes : List ℕ) where
         ap (λ o. i + unwrap_or o 0) w.1 ∙ w.2)
         s.belongs
 
-  pub may_gap_agrees : Agrees tables bytes read_may_gap (λ u. u) (mark MayGap) (Stops separator bytes)
-  may_gap_agrees = record {
-    sound = λ i a j l e. record { spelt = subst (Spelt MayGap bytes i) (got_next e) (past_gap_spelt i l); keeps = tt; fits = tt };
-    complete = λ i b j s n stop. found tt (ap (got tt) (past_gap_is i j s stop)) refl;
-  }
-
-  -- bytes that are one piece
-  pub mark_agrees : (w : List ℕ) → Agrees tables bytes (read_mark w) (λ u. u) (mark (Just w)) Anywhere
-  mark_agrees w = record {
-    sound = λ i a j l e.
-        let t = when_got (same_word (take (length w) (drop i bytes)) w) (got tt (i + length w)) _ e in
-        let is = same_words (take (length w) (drop i bytes)) w t.0 in
-        record {
-          spelt = subst (Spelt (Just w) bytes i) (got_next t.1) (spelt_front (Just w) i (length w) l (omega (arith, ap length is, length-take (length w) (drop i bytes))) is);
-          keeps = tt;
-          fits = tt;
-        };
-    complete = λ i b j s n stop.
-        let f = s.forward in
-        let len : length w ≡ j - i = omega (arith, length_between bytes i j s.within, ap length s.belongs) in
-        let to : i + length w ≡ j = omega arith in
-        found tt (cond-true _ _ _ (ap (λ x. same_word x w) (ap (λ n. take n (drop i bytes)) len ∙ s.belongs) ∙ same_refl w) ∙ ap (got tt) to) refl;
-  }
-
   -- at an end there is no gap
   pub end_no_gap : {i j : ℕ} → Spelt End bytes i j → Stops separator bytes j → past_gap bytes i ≡ i
   end_no_gap {i = i} {j = j} s stop =
@@ -158,3 +118,44 @@ module _ (tables : Sizes) (bytes : List ℕ) where
           let m : (run_at separator bytes i).length ≡ n = cc in
           subst (Stops separator bytes) (ap (λ n. i + n) m ∙ next) (front_stops separator bytes i refl)
       by false n is next = let z : ◌≡◌ {A = ℕ} 0 1 = cc in absurd (omega arith)
+
+module _ {tables : Sizes} {bytes : List ℕ} where
+  pub white_agrees : (last : ℕ) → 0 < last → separator last ≡ true → Agrees tables bytes (read_white last) (λ u. u) (mark (White last)) (Stops separator bytes)
+  white_agrees last more sep = record {
+    sound = λ i a j l e.
+        let w = read_where bytes last i (white last bytes i) refl e in
+        record { spelt = subst (Spelt (White last) bytes i) w.2 (white_spelt bytes last more sep i l w.0 w.1); keeps = tt; fits = tt };
+    complete = λ i b j s n stop.
+        let w = white_read bytes last more sep i j s stop in
+        found tt (ap (passed i) w.1 ∙ ap (got tt) w.2) refl;
+  }
+
+  pub gap_agrees : Agrees tables bytes read_gap (λ u. u) (mark Gap) (Stops separator bytes)
+  gap_agrees = white_agrees 32 (omega arith) refl
+
+  pub end_agrees : Agrees tables bytes read_end (λ u. u) (mark End) (Stops separator bytes)
+  end_agrees = white_agrees 10 (omega arith) refl
+
+  pub may_gap_agrees : Agrees tables bytes read_may_gap (λ u. u) (mark MayGap) (Stops separator bytes)
+  may_gap_agrees = record {
+    sound = λ i a j l e. record { spelt = subst (Spelt MayGap bytes i) (got_next e) (past_gap_spelt bytes i l); keeps = tt; fits = tt };
+    complete = λ i b j s n stop. found tt (ap (got tt) (past_gap_is bytes i j s stop)) refl;
+  }
+
+  -- bytes that are one piece
+  pub mark_agrees : (w : List ℕ) → Agrees tables bytes (read_mark w) (λ u. u) (mark (Just w)) Anywhere
+  mark_agrees w = record {
+    sound = λ i a j l e.
+        let t = when_got (same_word (take (length w) (drop i bytes)) w) (got tt (i + length w)) _ e in
+        let is = same_words (take (length w) (drop i bytes)) w t.0 in
+        record {
+          spelt = subst (Spelt (Just w) bytes i) (got_next t.1) (spelt_front (Just w) i (length w) l (omega (arith, ap length is, length-take (length w) (drop i bytes))) is);
+          keeps = tt;
+          fits = tt;
+        };
+    complete = λ i b j s n stop.
+        let f = s.forward in
+        let len : length w ≡ j - i = omega (arith, length_between bytes i j s.within, ap length s.belongs) in
+        let to : i + length w ≡ j = omega arith in
+        found tt (cond-true _ _ _ (ap (λ x. same_word x w) (ap (λ n. take n (drop i bytes)) len ∙ s.belongs) ∙ same_refl w) ∙ ap (got tt) to) refl;
+  }

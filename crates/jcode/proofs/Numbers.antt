@@ -57,7 +57,7 @@ decimal_first n small = first (decimal n) (digits_decimal own n small) (decimal_
     first [] e h = absurd (omega arith)
     first (b ∷ w) e h = (and_parts _ _ e).0
 
-module _ (tables : Sizes) (bytes : List ℕ) (low high : ℕ) (small : high < 2 ^ 64) where
+module _ (bytes : List ℕ) (low high : ℕ) (small : high < 2 ^ 64) where
   proper_got : (place j : ℕ) (s : List ℕ) {n k : ℕ} → numbered place j (proper s low high) ≡ got n k → (is_proper low high s n ≡ true) × (value_after 0 s ≡ n) × (j ≡ k)
   proper_got place j s e = by (is_proper low high s (value_after 0 s)) refl e
     where
@@ -94,16 +94,16 @@ module _ (tables : Sizes) (bytes : List ℕ) (low high : ℕ) (small : high < 2 
       ∙ ap (λ v. numbered place j (then_some (is_proper low high (decimal n) v) v)) value
       ∙ ap (λ b. numbered place j (then_some b n)) good
 
-module _ (tables : Sizes) (bytes : List ℕ) where
+minus : (n : ℕ) (w : List ℕ) → (Just (45 ∷ []) ⊙ Decimal 1 2000000000 n) w → Number (neg_ℤ (pos n)) w
+minus zero w h = absurd (let l = h.3.0 in omega arith)
+minus (suc n) w h = let l = h.3.1 in (omega (arith, ints), omega (arith, ints), h.4 ∙ (λ k. h.2 k ++ h.3.2 k))
+
+module _ {tables : Sizes} {bytes : List ℕ} where
   pub label_agrees : Agrees tables bytes read_label (λ l. l) (plain Label) (Stops digit bytes)
   label_agrees = record {
-    sound = λ i n j l e. record { spelt = decimal_sound tables bytes 1 9999 (omega arith) i i n j l e; keeps = tt; fits = tt };
-    complete = λ i n j s _ stop. found n (decimal_complete tables bytes 1 9999 (omega arith) i i n j s stop) refl;
+    sound = λ i n j l e. record { spelt = decimal_sound bytes 1 9999 (omega arith) i i n j l e; keeps = tt; fits = tt };
+    complete = λ i n j s _ stop. found n (decimal_complete bytes 1 9999 (omega arith) i i n j s stop) refl;
   }
-
-  minus : (n : ℕ) (w : List ℕ) → (Just (45 ∷ []) ⊙ Decimal 1 2000000000 n) w → Number (neg_ℤ (pos n)) w
-  minus zero w h = absurd (let l = h.3.0 in omega arith)
-  minus (suc n) w h = let l = h.3.1 in (omega (arith, ints), omega (arith, ints), h.4 ∙ (λ k. h.2 k ++ h.3.2 k))
 
   pub number_agrees : Agrees tables bytes read_number (λ z. z) (plain Number) (Stops digit bytes)
   number_agrees = record {
@@ -112,11 +112,11 @@ module _ (tables : Sizes) (bytes : List ℕ) where
         (λ t.
         let u = then_got (read_decimal i 1 greatest bytes (i + 1)) (λ n j. got (neg_ℤ (pos n)) j) t.1 in
         let dash = byte_spelt bytes 45 (omega arith) i l t.0 in
-        let p = decimal_sound tables bytes 1 2000000000 (omega arith) i (i + 1) u.0 u.1 dash.within u.2 in
+        let p = decimal_sound bytes 1 2000000000 (omega arith) i (i + 1) u.0 u.1 dash.within u.2 in
         record { spelt = subst (λ z. Spelt (Number z) bytes i j) (got_what u.3) (subst (Spelt (Number (neg_ℤ (pos u.0))) bytes i) (got_next u.3) (spelt_as (minus u.0) (joins dash p))); keeps = tt; fits = tt })
         (λ t.
         let u = then_got (read_decimal i 0 greatest bytes i) (λ n j. got (pos n) j) t.1 in
-        let p = decimal_sound tables bytes 0 2000000000 (omega arith) i i u.0 u.1 l u.2 in
+        let p = decimal_sound bytes 0 2000000000 (omega arith) i i u.0 u.1 l u.2 in
         record { spelt = subst (λ z. Spelt (Number z) bytes i j) (got_what u.3) (subst (Spelt (Number (pos u.0)) bytes i) (got_next u.3) (spelt_as (λ w h. let l = h.1 in (omega (arith, ints), omega (arith, ints), h.2)) p)); keeps = tt; fits = tt })
         (either_got (stands 45 bytes i) _ _ e);
     complete = λ i z j s _ stop. by i z j s stop;
@@ -129,7 +129,7 @@ module _ (tables : Sizes) (bytes : List ℕ) where
           let p : Spelt (Decimal 0 2000000000 n) bytes i j = spelt_as (λ w h. (omega arith, most, h.2)) s in
           let first : digit (byte bytes i) ≡ true = begins bytes digit refl (λ w h. ap (λ w. digit (get_or w 0 0)) h.2 ∙ decimal_first n (omega arith)) p in
           let plus : stands 45 bytes i ≡ false = stands_byte 45 (omega arith) bytes i ∙ ne_eqb _ _ (λ e. omega (arith, digit_least (byte bytes i) first)) in
-          found (pos n) (cond-false _ _ _ plus ∙ ap (λ o. and_then o (λ n j. got (pos n) j)) (decimal_complete tables bytes 0 2000000000 (omega arith) i i n j p stop)) refl
+          found (pos n) (cond-false _ _ _ plus ∙ ap (λ o. and_then o (λ n j. got (pos n) j)) (decimal_complete bytes 0 2000000000 (omega arith) i i n j p stop)) refl
       by i (negsuc n) j s stop =
           let h = s.belongs in
           let most : suc n ≤ 2000000000 = (let m = h.0 in omega (arith, ints)) in
@@ -137,4 +137,4 @@ module _ (tables : Sizes) (bytes : List ℕ) where
           let c = parts p in
           let to : c.0 ≡ i + 1 = (let f = c.1.forward in omega (arith, ap length c.1.belongs, length_between bytes i c.0 c.1.within)) in
           let q = subst (λ k. Spelt (Decimal 1 2000000000 (suc n)) bytes k j) to c.2 in
-          found (negsuc n) (cond-true _ _ _ (byte_stands bytes 45 (omega arith) c.1) ∙ ap (λ o. and_then o (λ n j. got (neg_ℤ (pos n)) j)) (decimal_complete tables bytes 1 2000000000 (omega arith) i (i + 1) (suc n) j q stop)) refl
+          found (negsuc n) (cond-true _ _ _ (byte_stands bytes 45 (omega arith) c.1) ∙ ap (λ o. and_then o (λ n j. got (neg_ℤ (pos n)) j)) (decimal_complete bytes 1 2000000000 (omega arith) i (i + 1) (suc n) j q stop)) refl

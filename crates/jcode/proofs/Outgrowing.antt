@@ -1,5 +1,5 @@
 -- Tables are blamed only where what was read has outgrown them.
-use Rattle.std.proofs.Common.{◌≡◌, ℕ, zero, suc, ◌+◌, ◌<◌, ◌≤◌, min, Bool, true, false, cond, leb, ltb, eqb, ◌⊎◌, List, [], ◌∷◌, ◌++◌, map, length, Some, None, Option, sym, refl, ap, ◌∙◌, subst, inl, inr, ⊎_elim, arith}
+use Rattle.std.proofs.Common.{◌≡◌, ℕ, zero, suc, ◌+◌, ◌-◌, ◌<◌, ◌≤◌, min, Bool, true, false, cond, leb, ltb, eqb, ◌⊎◌, List, [], ◌∷◌, ◌++◌, map, length, Some, None, Option, sym, refl, ap, ◌∙◌, subst, inl, inr, ⊎_elim, arith}
 use Rattle.std.specs.Prelude.{codes}
 use Rattle.std.specs.List.{IsDistinct}
 use Rattle.std.proofs.lemmas.Bool.{ltb-true, leb-true, leb-false}
@@ -70,7 +70,7 @@ module _ (tables : Sizes) (bytes : List ℕ) where
   pub record Fills (L : ℕ → Language) (used i place : ℕ) : Type 0 where
     pub rows : ℕ
     pub spelt : Spelt (L rows) bytes i place
-    pub full : tables.rows ≤ used + rows
+    pub full : used ≤ tables.rows → used + rows ≡ tables.rows
     pub few : used + rows < 2000
 
   -- after a piece, as part of another language
@@ -82,12 +82,12 @@ module _ (tables : Sizes) (bytes : List ℕ) where
   after_gap r f {i = i} l e =
       let o = first_of ((read_gap ▷ r) bytes i) (λ a j. got (f a) j) (λ a. got_fair (f a)) e in
       let t = past (λ _ j. r bytes j) (white_fair bytes i (white 32 bytes i)) o in
-      (t.1, ((gap_agrees tables bytes).sound i t.0 t.1 l t.2).spelt, t.3)
+      (t.1, ((gap_agrees {tables = tables}).sound i t.0 t.1 l t.2).spelt, t.3)
 
   after_may_gap : {A : Type 0} (r : Reader A) {i place : ℕ} → i ≤ length bytes → (read_may_gap ▷ r) bytes i ≡ refuse Table place → (j : ℕ) × Spelt MayGap bytes i j × (r bytes j ≡ refuse Table place)
   after_may_gap r {i = i} l e =
       let t = past (λ _ j. r bytes j) (got_fair tt _) e in
-      (t.1, ((may_gap_agrees tables bytes).sound i t.0 t.1 l t.2).spelt, t.3)
+      (t.1, ((may_gap_agrees {tables = tables}).sound i t.0 t.1 l t.2).spelt, t.3)
 
   paired : {A B : Type 0} (r : Reader A) (q : A → Reader B) {i place : ℕ} → ((a : A) (j : ℕ) → Fair (q a bytes j)) → (r ⊗ q) bytes i ≡ refuse Table place → r bytes i ≡ refuse Table place
   paired r q {i = i} h e = first_of (r bytes i) (λ a j. and_then (q a bytes j) (λ b k. got (a, b) k)) (λ a j. then_fair (q a bytes j) (λ b k. got (a, b) k) (h a j) (λ b. got_fair (a, b))) e
@@ -102,17 +102,15 @@ module _ (tables : Sizes) (bytes : List ℕ) where
     abbrev term : ℕ → ℕ → Reader (List UnitRow)
     term k = read_term sc tables.rows k
 
-    operand_first : (k m : ℕ) (first : Bool) (used : ℕ) (rs : List UnitRow) {i j n place : ℕ} → Spelt (Lead first) bytes i j → Spelt (Term sc k rs) bytes j n → Fills (OperandsPartway (Term sc k) (Partway sc k) m false) (used + length rs) n place → Fills (OperandsPartway (Term sc k) (Partway sc k) (suc m) first) used i place
-    operand_first k m first used rs s r f =
-        let full = f.full in
+    operand_first : (k m : ℕ) (first : Bool) (used : ℕ) (rs : List UnitRow) {i j n place : ℕ} → length rs ≤ tables.rows - used → Spelt (Lead first) bytes i j → Spelt (Term sc k rs) bytes j n → Fills (OperandsPartway (Term sc k) (Partway sc k) m false) (used + length rs) n place → Fills (OperandsPartway (Term sc k) (Partway sc k) (suc m) first) used i place
+    operand_first k m first used rs fits s r f =
         let few = f.few in
-        record { rows = length rs + f.rows; spelt = spelt_as (λ w h. inr (rs, f.rows, refl, h)) (joins s (joins r f.spelt)); full = omega arith; few = omega arith }
+        record { rows = length rs + f.rows; spelt = spelt_as (λ w h. inr (rs, f.rows, refl, h)) (joins s (joins r f.spelt)); full = λ h. omega (arith, f.full (omega arith)); few = omega arith }
 
-    row_first : (k used : ℕ) (r : UnitRow) {i j place : ℕ} → Spelt (Just (codes "(") ⊙ MayGap ⊙ Leader sc r) bytes i j → Fills (OperandsPartway (Term sc k) (Partway sc k) (operands_after r) true) (used + 1) j place → Fills (Partway sc (suc k)) used i place
-    row_first k used r s f =
-        let full = f.full in
+    row_first : (k used : ℕ) (r : UnitRow) {i j place : ℕ} → used < tables.rows → Spelt (Just (codes "(") ⊙ MayGap ⊙ Leader sc r) bytes i j → Fills (OperandsPartway (Term sc k) (Partway sc k) (operands_after r) true) (used + 1) j place → Fills (Partway sc (suc k)) used i place
+    row_first k used r fits s f =
         let few = f.few in
-        record { rows = f.rows + 1; spelt = spelt_as (λ w h. inr (r, f.rows, refl, regroup3 w h)) (joins s f.spelt); full = omega arith; few = omega arith }
+        record { rows = f.rows + 1; spelt = spelt_as (λ w h. inr (r, f.rows, refl, regroup3 w h)) (joins s f.spelt); full = λ h. omega (arith, f.full (omega arith)); few = omega arith }
 
     operands_fill : (k : ℕ) → Terms k → (m : ℕ) (first : Bool) (used i place : ℕ) → i ≤ length bytes → read_operands (term k) m first used bytes i ≡ refuse Table place → Fills (OperandsPartway (Term sc k) (Partway sc k) m first) used i place
     operands_fill k rec zero first used i place l e = absurd (got_refused e)
@@ -120,14 +118,14 @@ module _ (tables : Sizes) (bytes : List ℕ) where
         ⊎_elim
         (λ t.
         let a = past (λ _ j. term k used bytes j) (lead_fair bytes first i) t in
-        let s = ((lead_agrees tables bytes first).sound i a.0 a.1 l a.2).spelt in
+        let s = ((lead_agrees {tables = tables} first).sound i a.0 a.1 l a.2).spelt in
         filled_as s (rec used a.1 place s.within a.3) (λ w h. inl h))
         (λ t.
         let a = then_got (read_lead first bytes i) (λ _ j. term k used bytes j) t.2 in
-        let s = ((lead_agrees tables bytes first).sound i a.0 a.1 l a.2).spelt in
-        let r = ((term_agrees tables bytes sc once k used).sound a.1 t.0 t.1 s.within a.3).spelt in
+        let s = ((lead_agrees {tables = tables} first).sound i a.0 a.1 l a.2).spelt in
+        let r = (term_agrees tables bytes sc once k used).sound a.1 t.0 t.1 s.within a.3 in
         let more = first_of (read_operands (term k) m false (used + length t.0) bytes t.1) (λ rest j. got (t.0 ++ rest) j) (λ rest. got_fair (t.0 ++ rest)) t.3 in
-        operand_first k m first used t.0 s r (operands_fill k rec m false (used + length t.0) t.1 place r.within more))
+        operand_first k m first used t.0 r.fits s r.spelt (operands_fill k rec m false (used + length t.0) t.1 place r.spelt.within more))
         (then_refused ((read_lead first ▷ term k used) bytes i) _ e)
 
     begin_fills : (k used i place : ℕ) → read_begin sc (suc k) tables.rows used bytes i ≡ refuse Table place → (place ≡ i) × (tables.rows ≤ used) × (used < 2000)
@@ -156,11 +154,11 @@ module _ (tables : Sizes) (bytes : List ℕ) where
         let b = begin_fills k used i place t in
         let full = b.1 in
         let few = b.2 in
-        record { rows = 0; spelt = subst (λ j. Spelt (Partway sc (suc k) 0) bytes i j) (sym b.0) (spelt_none (Partway sc (suc k) 0) i l (inl (refl, refl))); full = omega arith; few = omega arith })
+        record { rows = 0; spelt = subst (λ j. Spelt (Partway sc (suc k) 0) bytes i j) (sym b.0) (spelt_none (Partway sc (suc k) 0) i l (inl (refl, refl))); full = λ h. omega arith; few = omega arith })
         (λ t.
-        let s = ((begin_agrees tables bytes sc once k used).sound i t.0 t.1 l t.2).spelt in
+        let s = (begin_agrees tables bytes sc once k used).sound i t.0 t.1 l t.2 in
         let o = first_of (read_operands (term k) (operands_after t.0) true (used + 1) bytes t.1) _ (λ rs j. closed t.0 rs j) t.3 in
-        row_first k used t.0 s (operands_fill k (term_fills k) (operands_after t.0) true (used + 1) t.1 place s.within o))
+        row_first k used t.0 s.fits s.spelt (operands_fill k (term_fills k) (operands_after t.0) true (used + 1) t.1 place s.spelt.within o))
         (then_refused (read_begin sc (suc k) tables.rows used bytes i) _ e)
       where
         closed : (r : UnitRow) (rs : List UnitRow) (j : ℕ) → Fair (and_then (read_close bytes j) (λ _ m. got (r ∷ rs) m))
@@ -203,16 +201,15 @@ module _ (tables : Sizes) (bytes : List ℕ) where
     targeted : (v : ℕ) {Q : Language} (w : List ℕ) → (Targeted v ⊙ Q) w → (Just (codes "ASSIGN") ⊙ Gap ⊙ Bracketed (Mentioned sc v) ⊙ MayGap ⊙ Bracketed (Mentioned sc v) ⊙ MayGap ⊙ Q) w
     targeted v w h = under (under regroup3) w (regroup3 w (regroup w h))
 
-    assign_value : (v : ℕ) (e : List UnitRow) {h i j place : ℕ} → Spelt (Targeted v) bytes h i → Spelt (Term sc 32 e) bytes i j → value e bytes j ≡ refuse Table place → Fills (Interrupted sc) used h place
-    assign_value v e {place = place} s t o =
+    assign_value : (v : ℕ) (e : List UnitRow) {h i j place : ℕ} → length e ≤ tables.rows - used → Spelt (Targeted v) bytes h i → Spelt (Term sc 32 e) bytes i j → value e bytes j ≡ refuse Table place → Fills (Interrupted sc) used h place
+    assign_value v e {place = place} fits s t o =
         let m = after_may_gap (read_term sc tables.rows 32 (used + length e) ◁ read_end) t.within o in
         let f = term_fills sc once 32 (used + length e) m.0 place m.1.within (ended (read_term sc tables.rows 32 (used + length e)) m.2) in
-        let full = f.full in
         let few = f.few in
         record {
           rows = length e + f.rows;
           spelt = spelt_as (λ w h. in_value v e f.rows refl (targeted v w h)) (joins s (joins t (joins m.1 f.spelt)));
-          full = omega arith;
+          full = λ h. omega (arith, f.full (omega arith));
           few = omega arith;
         }
 
@@ -221,7 +218,8 @@ module _ (tables : Sizes) (bytes : List ℕ) where
         ⊎_elim
         (λ o. filled_as s (term_fills sc once 32 used i place s.within o) (λ w h. in_shadow v (targeted v w h)))
         (λ o.
-        assign_value v o.0 s ((term_agrees tables bytes sc once 32 used).sound i o.0 o.1 s.within o.2).spelt
+        let shadow = (term_agrees tables bytes sc once 32 used).sound i o.0 o.1 s.within o.2 in
+        assign_value v o.0 shadow.fits s shadow.spelt
         (first_of (value o.0 bytes o.1) (λ b k. got (o.0, b) k) (λ b k. got_fair (o.0, b) k) o.3))
         (then_refused (read_term sc tables.rows 32 used bytes i) (λ a j. and_then (value a bytes j) (λ b k. got (a, b) k)) e)
 
@@ -271,7 +269,7 @@ module _ (tables : Sizes) (bytes : List ℕ) where
   unfolding read_sentence
   sentence_fills sc once r used i place l e =
       let t = past (λ s j. by_found sc tables.rows used r false i (verb_of (slice bytes s)) bytes j) (word_fair bytes i) e in
-      let p = ((word_agrees tables bytes).sound i t.0 t.1 l t.2).spelt in
+      let p = ((word_agrees {tables = tables}).sound i t.0 t.1 l t.2).spelt in
       by_found_fills sc once r used i t.1 place (slice bytes t.0) (verb_of (slice bytes t.0)) refl (spelt_as (λ w h. h.1) p) t.3
 
   -- a full table is blamed at the place of what it has no room for
@@ -297,16 +295,18 @@ module _ (tables : Sizes) (bytes : List ℕ) where
     pub said : List (Sentence (List ℕ))
     pub next : ℕ
     pub spelt : Spelt (Many (Says sc) (Just []) said) bytes i next
-    pub cause : ((next ≡ place) × (tables.statements ≤ n + length said) × (n + length said < 200)) ⊎ Fills (Interrupted sc) (used + length (rows_all said)) next place
+    pub fits : used ≤ tables.rows → used + length (rows_all said) ≤ tables.rows
+    pub cause : ((next ≡ place) × (n + length said ≡ tables.statements) × (n + length said < 200)) ⊎ Fills (Interrupted sc) (used + length (rows_all said)) next place
 
   module _ (sc : Scope) (once : IsDistinct same_word sc.names) where
-    cut_more : (n used : ℕ) (s : Sentence (List ℕ)) {i j place : ℕ} → Spelt (Says sc s) bytes i j → Cut sc (n + 1) (used + length (rows_of s)) j place → Cut sc n used i place
-    cut_more n used s {place = place} h c =
+    cut_more : (n used : ℕ) (s : Sentence (List ℕ)) {i j place : ℕ} → length (rows_of s) ≤ tables.rows - used → Spelt (Says sc s) bytes i j → Cut sc (n + 1) (used + length (rows_of s)) j place → Cut sc n used i place
+    cut_more n used s {place = place} few h c =
         let rows : used + length (rows_of s) + length (rows_all c.said) ≡ used + length (rows_all (s ∷ c.said)) = omega (arith, length-append (rows_of s) (rows_all c.said)) in
         record {
           said = s ∷ c.said;
           next = c.next;
           spelt = joins h c.spelt;
+          fits = λ l. omega (arith, rows, c.fits (omega arith));
           cause = ⊎_elim
               (λ t. let a = t.1 in let b = t.2 in inl (t.0, omega arith, omega arith))
               (λ t. inr (subst (λ m. Fills (Interrupted sc) m c.next place) rows t))
@@ -328,7 +328,7 @@ module _ (tables : Sizes) (bytes : List ℕ) where
         (λ t.
         let f = sentence_full sc size (length (rows_all seen)) i place (first_of (step true seen bytes i) (λ _ j. got seen j) (λ _. got_fair seen) t.1) in
         let few = f.1 in
-        record { said = []; next = i; spelt = spelt_none (Just []) i l refl; cause = inl (sym f.0, omega arith, omega arith) })
+        record { said = []; next = i; spelt = spelt_none (Just []) i l refl; fits = λ h. omega arith; cause = inl (sym f.0, omega arith, omega arith) })
         (λ t. absurd (no_more seen i place t.1))
         (either_refused (goes_on bytes i) _ _ e)
     statements_cut (suc left) n seen i place count l e =
@@ -337,11 +337,11 @@ module _ (tables : Sizes) (bytes : List ℕ) where
         ⊎_elim
         (λ o.
         let rows : length (rows_all seen) ≡ length (rows_all seen) + 0 = omega arith in
-        record { said = []; next = i; spelt = spelt_none (Just []) i l refl; cause = inr (subst (λ m. Fills (Interrupted sc) m i place) rows (sentence_fills sc once (full_by size 200) (length (rows_all seen)) i place l o)) })
+        record { said = []; next = i; spelt = spelt_none (Just []) i l refl; fits = λ h. omega arith; cause = inr (subst (λ m. Fills (Interrupted sc) m i place) rows (sentence_fills sc once (full_by size 200) (length (rows_all seen)) i place l o)) })
         (λ o.
-        let s = ((sentence_agrees tables bytes sc (length (rows_all seen)) (full_by size 200) once).sound i o.0 o.1 l o.2).spelt in
+        let s = (sentence_agrees tables bytes sc (length (rows_all seen)) (full_by size 200) once).sound i o.0 o.1 l o.2 in
         let rows : length (rows_all (seen ++ o.0 ∷ [])) ≡ length (rows_all seen) + length (rows_of (retold (slice bytes) o.0)) = ap length (rows_push seen o.0) ∙ length-append (rows_all seen) (rows_of o.0) ∙ ap (λ r. length (rows_all seen) + length r) (sym (rows_told (slice bytes) o.0)) in
-        cut_more n (length (rows_all seen)) (retold (slice bytes) o.0) s (subst (λ m. Cut sc (n + 1) m o.1 place) rows (statements_cut left (n + 1) (seen ++ o.0 ∷ []) o.1 place (omega arith) s.within o.3)))
+        cut_more n (length (rows_all seen)) (retold (slice bytes) o.0) s.fits s.spelt (subst (λ m. Cut sc (n + 1) m o.1 place) rows (statements_cut left (n + 1) (seen ++ o.0 ∷ []) o.1 place (omega arith) s.spelt.within o.3)))
         (then_refused (step false seen bytes i) (λ a j. read_statements sc tables.rows size left (seen ++ a ∷ []) bytes j) t.1))
         (λ t. absurd (no_more seen i place t.1))
         (either_refused (goes_on bytes i) _ _ e)
@@ -350,7 +350,7 @@ module _ (tables : Sizes) (bytes : List ℕ) where
   pub record Undeclared (n i place : ℕ) : Type 0 where
     pub made : List Declared
     pub spelt : Spelt (Declarations made) bytes i place
-    pub full : tables.variables ≤ n + length made
+    pub full : n + length made ≡ tables.variables
     pub few : n + length made < 32
 
   declared_more : (n : ℕ) (d : Declared) {i j place : ℕ} → Spelt (Declares d) bytes i j → Undeclared (n + 1) j place → Undeclared n i place
@@ -399,7 +399,7 @@ module _ (t : Tables) (bytes : List ℕ) where
       let front : Spelt (Front name ds c.said) bytes start c.next = joins s (joins d c.spelt) in
       ⊎_elim
       (λ h. let full = h.1 in let few = h.2 in by_statements name ds c.said (subst (Spelt (Front name ds c.said) bytes start) h.0 front) (omega arith) (omega arith))
-      (λ h. let full = h.full in let few = h.few in by_rows name ds c.said c.next h.rows front h.spelt (omega arith) (omega arith))
+      (λ h. let fits = c.fits (omega arith) in let full = h.full (omega arith) in let few = h.few in by_rows name ds c.said c.next h.rows front h.spelt (omega arith) (omega arith))
       c.cause
 
   outgrown_rest : (name : List ℕ) {start i place : ℕ} → Spelt (Heading name) bytes start i → read_rest t bytes i ≡ refuse Table place → IsOutgrown sizes bytes start place

@@ -83,7 +83,7 @@ module _ (tables : Sizes) (bytes : List ℕ) (sc : Scope) where
   Colonless i = stands 58 bytes (past_gap bytes i) ≡ false
 
   colonless : {i : ℕ} (k : ℕ) → Spelt MayGap bytes i k → Sep k → eqb (byte bytes k) 58 ≡ false → Colonless i
-  colonless {i = i} k s sep other = ap (stands 58 bytes) (past_gap_is tables bytes i k s sep) ∙ stands_byte 58 (omega arith) bytes k ∙ other
+  colonless {i = i} k s sep other = ap (stands 58 bytes) (past_gap_is bytes i k s sep) ∙ stands_byte 58 (omega arith) bytes k ∙ other
 
   gap_bracket : {Q : Language} {i j : ℕ} → ((k : ℕ) → Spelt Q bytes k j → byte bytes k ≡ 40) → Spelt (Gap ⊙ Q) bytes i j → Colonless i
   gap_bracket first s =
@@ -95,8 +95,8 @@ module _ (tables : Sizes) (bytes : List ℕ) (sc : Scope) where
   gap_label l s =
       let c = parts s in
       let label = (parts c.2).1 in
-      let d = label_begins tables bytes l label in
-      colonless c.0 (spelt_as (λ w h. inr h) c.1) (label_stops tables bytes l label)
+      let d = label_begins bytes l label in
+      colonless c.0 (spelt_as (λ w h. inr h) c.1) (label_stops bytes l label)
       (ne_eqb (byte bytes c.0) 58 (λ e. both_ways (digit 58) refl (ap digit (sym e) ∙ d)))
 
   expression_begins : (e : List UnitRow) {Q : Language} {j : ℕ} (k : ℕ) → Spelt (Term sc 32 e ⊙ Q) bytes k j → byte bytes k ≡ 40
@@ -107,7 +107,7 @@ module _ (tables : Sizes) (bytes : List ℕ) (sc : Scope) where
 
   end_colonless : {i j : ℕ} → Spelt End bytes i j → Sep j → Colonless i
   end_colonless {i = i} s sep =
-      ap (stands 58 bytes) (end_no_gap tables bytes s sep)
+      ap (stands 58 bytes) (end_no_gap bytes s sep)
       ∙ stands_byte 58 (omega arith) bytes i
       ∙ ne_eqb (byte bytes i) 58 (λ e. both_ways (separator 58) refl (ap separator (sym e) ∙ white_begins bytes 10 refl s))
 
@@ -190,7 +190,7 @@ module _ (tables : Sizes) (bytes : List ℕ) (sc : Scope) where
     word_read : (s : Sentence (List ℕ)) {i j : ℕ} → Spelt (Says sc s) bytes i j → (k : ℕ) × Spelt ((speech (kind s)).spells s) bytes k j × (a : Span) × (read_word bytes i ≡ got a k) × (slice bytes a ≡ verb_word (kind s))
     word_read s {i = i} h =
         let c = parts (spelt_as (verb_back s) h) in
-        let r = surely tables bytes ((word_agrees tables bytes).complete i (verb_word (kind s)) c.0 (spelt_as (λ w e. (verb_is_word (kind s), e)) c.1) tt (speech_stops (kind s) s c.2)) in
+        let r = surely ((word_agrees {tables = tables}).complete i (verb_word (kind s)) c.0 (spelt_as (λ w e. (verb_is_word (kind s), e)) c.1) tt (speech_stops (kind s) s c.2)) in
         (c.0, c.2, r.0, r.1, r.2)
 
     module _ (r : Refusal) where
@@ -206,7 +206,7 @@ module _ (tables : Sizes) (bytes : List ℕ) (sc : Scope) where
       sentence_agrees once = record {
         sound = λ i s j l e.
             let t = then_got (read_word bytes i) (by_word false i) e in
-            let p = ((word_agrees tables bytes).sound i t.0 t.1 l t.2).spelt in
+            let p = ((word_agrees {tables = tables}).sound i t.0 t.1 l t.2).spelt in
             let f = by_found_got i t.1 (verb_of (slice bytes t.0)) t.3 in
             let h = (verb_agrees tables bytes sc once used f.0).sound t.1 s j p.within f.2 in
             let word = spelt_as (λ w h. h.1 ∙ first_is verb_word (slice bytes t.0) verbs f.0 f.1) p in
@@ -248,12 +248,12 @@ module _ (tables : Sizes) (bytes : List ℕ) (sc : Scope) where
 
   finish_agrees : Agrees tables bytes read_finish (λ u. u) (mark (Just (codes "END") ⊙ End)) Sep
   unfolding read_finish
-  finish_agrees = after_agrees tables bytes (keyword_agrees tables bytes (codes "END") refl) (end_agrees tables bytes) (λ b i j s stop. separator_no_name (byte bytes i) (white_begins bytes 10 refl s))
+  finish_agrees = after_agrees (keyword_agrees (codes "END") refl) end_agrees (λ b i j s stop. separator_no_name (byte bytes i) (white_begins bytes 10 refl s))
 
   end_read : {i j : ℕ} → Spelt (Just (codes "END") ⊙ End) bytes i j → (k : ℕ) × Spelt End bytes k j × (a : Span) × (read_word bytes i ≡ got a k) × (slice bytes a ≡ codes "END")
   end_read {i = i} s =
       let c = parts s in
-      let r = surely tables bytes ((word_agrees tables bytes).complete i (codes "END") c.0 (spelt_as (λ w e. (refl, e)) c.1) tt (separator_no_name (byte bytes c.0) (white_begins bytes 10 refl c.2))) in
+      let r = surely ((word_agrees {tables = tables}).complete i (codes "END") c.0 (spelt_as (λ w e. (refl, e)) c.1) tt (separator_no_name (byte bytes c.0) (white_begins bytes 10 refl c.2))) in
       (c.0, c.2, r.0, r.1, r.2)
 
   -- a word stands where a statement or the end begins
@@ -278,7 +278,7 @@ module _ (tables : Sizes) (bytes : List ℕ) (sc : Scope) where
     ends = λ seen i all j l e.
         let t = then_got (read_finish bytes i) (λ _ i. got seen i) e in
         (sym (got_what t.3), subst (Spelt (Just (codes "END") ⊙ End) bytes i) (got_next t.3) (finish_agrees.sound i t.0 t.1 l t.2).spelt);
-    ended = λ seen i j s stop. ap (λ o. and_then o (λ _ i. got seen i)) (surely tables bytes (finish_agrees.complete i tt j s tt stop)).1;
+    ended = λ seen i j s stop. ap (λ o. and_then o (λ _ i. got seen i)) (surely (finish_agrees.complete i tt j s tt stop)).1;
     item_stops = λ b i j s. verb_begins b s;
     end_stops = λ i j s stop. end_begins s;
     goes_on = λ b i j s.
@@ -322,10 +322,10 @@ module _ (tables : Sizes) (bytes : List ℕ) (sc : Scope) where
 
   pub statements_agrees : IsDistinct same_word sc.names → Agrees tables bytes (read_statements sc tables.rows tables.statements most []) (map told) (statements sc) Sep
   statements_agrees once =
-      renamed tables bytes (statements sc) (λ ss w h. h) (λ ss w h. h)
+      renamed (statements sc) (λ ss w h. h) (λ ss w h. h)
       (λ t ss n. let c = counted_there t 0 [] ss n in let a = c.0 in let b = c.1 in (omega arith, omega arith))
       (λ t ss n. let a = n.0 in let b = n.1 in counted_back t 0 [] ss (omega arith) (omega arith))
-      (many_agrees tables bytes goes_on (λ full seen. read_sentence sc tables.rows (full_by tables.statements 200) full (length (rows_all seen))) (λ seen bytes at. and_then (read_finish bytes at) (λ _ i. got seen i)) told (Says sc) (Just (codes "END") ⊙ End) (λ t n. n < t.statements) NeedsRows Sep Sep most (repeats once))
+      (many_agrees (repeats once))
 
   -- where statements begin no declaration stands
   pub statements_begin : (ss : List (Sentence (List ℕ))) {i j : ℕ} → Spelt (Statements sc ss) bytes i j → Sep j → Sep i × (opens_declaration bytes i ≡ false)
@@ -346,5 +346,5 @@ module _ (tables : Sizes) (bytes : List ℕ) (sc : Scope) where
       (λ seen i all j e.
       let t = then_got (read_finish bytes i) (λ _ i. got seen i) e in
       let u = then_got (read_keyword (codes "END") bytes i) (λ _ i. read_end bytes i) t.2 in
-      subst Sep (got_next t.3) (white_whole tables bytes 10 u.1 u.3))
+      subst Sep (got_next t.3) (white_whole bytes 10 u.1 u.3))
       (λ seen i a j e. sentence_refused (length (rows_all seen)) (full_by tables.statements 200) i a j e)

@@ -53,18 +53,20 @@ Few used t rs = length rs ≤ t.rows - used
 abbrev pub terms : Scope → ℕ → ℕ → Production (List UnitRow)
 terms sc k used = record { spells = Term sc k; needs = Few used }
 
-module _ (tables : Sizes) (bytes : List ℕ) where
+module _ {tables : Sizes} {bytes : List ℕ} where
   pub close_agrees : Agrees tables bytes read_close (λ u. u) (mark Close) Anywhere
   unfolding read_close
-  close_agrees = after_agrees tables bytes (may_gap_agrees tables bytes) (mark_agrees tables bytes (codes ")")) (λ b i j s stop. ap separator (begins_with bytes 41 [] (omega arith) s))
+  close_agrees = after_agrees may_gap_agrees (mark_agrees (codes ")")) (λ b i j s stop. ap separator (begins_with bytes 41 [] (omega arith) s))
 
+  pub lead_agrees : (b : Bool) → Agrees tables bytes (read_lead b) (λ u. u) (mark (Lead b)) (Stops separator bytes)
+  lead_agrees true = gap_agrees
+  lead_agrees false = may_gap_agrees
+
+module _ (bytes : List ℕ) where
   pub close_stops : (p : ℕ → Bool) → ((b : ℕ) → separator b ≡ true → p b ≡ false) → p 41 ≡ false → {i j : ℕ} → Spelt Close bytes i j → Stops p bytes i
   close_stops p off this s = let c = parts s in may_gap_stops bytes p off c.1 (ap p (begins_with bytes 41 [] (omega arith) c.2) ∙ this)
 
-  pub lead_agrees : (b : Bool) → Agrees tables bytes (read_lead b) (λ u. u) (mark (Lead b)) (Stops separator bytes)
-  lead_agrees true = gap_agrees tables bytes
-  lead_agrees false = may_gap_agrees tables bytes
-
+module _ (tables : Sizes) (bytes : List ℕ) where
   module _ (sc : Scope) where
     pub term_begins : (k : ℕ) (rs : List UnitRow) {i j : ℕ} → Spelt (Term sc k rs) bytes i j → byte bytes i ≡ 40
     term_begins zero rs s = absurd s.belongs
@@ -83,8 +85,8 @@ module _ (tables : Sizes) (bytes : List ℕ) where
 
       inner_agrees : Agrees tables bytes inner (λ r. r) (plain Began) (Stops head_byte bytes)
       inner_agrees =
-          after_agrees tables bytes (mark_agrees tables bytes (codes "("))
-          (after_agrees tables bytes (may_gap_agrees tables bytes) (row_agrees tables bytes sc once) (λ r i j s stop. row_stops tables bytes sc once r s))
+          after_agrees (mark_agrees (codes "("))
+          (after_agrees may_gap_agrees (row_agrees tables bytes sc once) (λ r i j s stop. row_stops tables bytes sc once r s))
           (λ r i j s stop. tt)
 
       module _ (k used : ℕ) where
@@ -109,7 +111,7 @@ module _ (tables : Sizes) (bytes : List ℕ) where
           complete = λ i r j s n stop.
               let rest : Unit {0} → ℕ → Answer UnitRow = λ _ j. (read_may_gap ▷ read_row sc) bytes j in
               let c = parts s in
-              let opened : read_mark (codes "(") bytes i ≡ got tt c.0 = (surely tables bytes ((mark_agrees tables bytes (codes "(")).complete i tt c.0 c.1 tt tt)).1 in
+              let opened : read_mark (codes "(") bytes i ≡ got tt c.0 = (surely ((mark_agrees {tables = tables} (codes "(")).complete i tt c.0 c.1 tt tt)).1 in
               let guarded : read_open (suc k) tables.rows used bytes i ≡ cond (leb tables.rows used) (refuse Table i) (got tt c.0) = then_step (guard i) opened ∙ cond-false _ _ _ (ne_eqb (suc k) 0 (λ e. omega arith)) ∙ cond-false _ _ _ (lt-leb 2000 used n) in
               ⊎_elim
               (λ h.
@@ -139,13 +141,13 @@ module _ (tables : Sizes) (bytes : List ℕ) where
               found rs (λ k. got (sym s.belongs.0 k) (same k)) refl;
         }
         operands_agrees (suc n) first used =
-            same_agrees tables bytes (read_operands (read_term sc tables.rows k) (suc n) first used)
+            same_agrees (read_operands (read_term sc tables.rows k) (suc n) first used)
             (λ i. operands_step (read_lead first bytes i) (read_term sc tables.rows k used bytes) (λ a j. read_operands (read_term sc tables.rows k) n false (used + length a) bytes j))
-            (renamed tables bytes (record { spells = Operands (Term sc k) (suc n) first; needs = Few used })
+            (renamed (record { spells = Operands (Term sc k) (suc n) first; needs = Few used })
             (λ rs w h. (h.0.0, h.0.1, sym h.1, h.2)) (λ rs w h. ((h.0, h.1), sym h.2, h.3)) (λ t rs m. m) (λ t rs m. m)
-            (image_agrees tables bytes (λ p. p.0 ++ p.1) (λ rs. rs) (λ p. p.0 ++ p.1) (Few used)
-            (after_agrees tables bytes (lead_agrees first)
-            (pair_agrees tables bytes (λ a. record { spells = Operands (Term sc k) n false; needs = Few (used + length a) }) (rec used) (λ a _. operands_agrees n false (used + length a)) (λ a _ rs i j s stop. tt))
+            (image_agrees (λ p. p.0 ++ p.1) (λ rs. rs) (λ p. p.0 ++ p.1) (Few used)
+            (after_agrees (lead_agrees first)
+            (pair_agrees (λ a. record { spells = Operands (Term sc k) n false; needs = Few (used + length a) }) (rec used) (λ a _. operands_agrees n false (used + length a)) (λ a _ rs i j s stop. tt))
             (λ p i j s stop. term_stops k p.0 (parts s).1))
             (λ p. refl)
             (λ t p m. let a = m.0 in let b = m.1 in omega (arith, length-append p.0 p.1))
@@ -156,7 +158,7 @@ module _ (tables : Sizes) (bytes : List ℕ) where
       operands_stop k zero rs {i = i} s =
           let c = parts s in
           let same : i ≡ c.0 = (let f = c.1.forward in omega (arith, length_between bytes i c.0 c.1.within, ap length c.1.belongs.1)) in
-          ap (λ i. head_byte (byte bytes i)) same ∙ close_stops head_byte separator_no_head refl c.2
+          ap (λ i. head_byte (byte bytes i)) same ∙ close_stops bytes head_byte separator_no_head refl c.2
       operands_stop k (suc n) rs {i = i} s =
           let c = parts s in
           let h = c.1.belongs in
@@ -173,13 +175,13 @@ module _ (tables : Sizes) (bytes : List ℕ) where
         complete = λ i rs j s n stop. absurd s.belongs;
       }
       term_agrees (suc k) used =
-          same_agrees tables bytes (read_term sc tables.rows (suc k) used)
+          same_agrees (read_term sc tables.rows (suc k) used)
           (λ i. whole_step (read_begin sc (suc k) tables.rows used bytes i) (λ r j. read_operands (read_term sc tables.rows k) (operands_after r) true (used + 1) bytes j) (read_close bytes))
-          (renamed tables bytes (terms sc (suc k) used) there back (λ t rs m. m) (λ t rs m. m)
-          (image_agrees tables bytes (λ p. p.0 ∷ p.1) (λ rs. rs) (λ p. p.0 ∷ p.1) (Few used)
-          (pair_agrees tables bytes (λ r. behind (record { spells = Operands (Term sc k) (operands_after r) true; needs = Few (used + 1) }) Close)
+          (renamed (terms sc (suc k) used) there back (λ t rs m. m) (λ t rs m. m)
+          (image_agrees (λ p. p.0 ∷ p.1) (λ rs. rs) (λ p. p.0 ∷ p.1) (Few used)
+          (pair_agrees (λ r. behind (record { spells = Operands (Term sc k) (operands_after r) true; needs = Few (used + 1) }) Close)
           (begin_agrees k used)
-          (λ r _. before_agrees tables bytes (operands_agrees k (term_agrees k) (operands_after r) true (used + 1)) close_agrees (λ b i j s stop. tt))
+          (λ r _. before_agrees (operands_agrees k (term_agrees k) (operands_after r) true (used + 1)) close_agrees (λ b i j s stop. tt))
           (λ r _ rs i j s stop. operands_stop k (operands_after r) rs s))
           (λ p. refl)
           (λ t p m. let a = m.0 in let b = m.1 in omega arith)

@@ -67,7 +67,10 @@ text_is (b ∷ t) rest e u =
     let q = and_parts _ _ e in
     cond-true _ _ _ (and_from _ _ q.0 (not_from_false _ (open_more b t rest u.0))) ∙ one-add _ ∙ ap suc (text_is t rest q.1 u.1)
 
-module _ (tables : Sizes) (bytes : List ℕ) where
+abbrev Inner : List ℕ → Language
+Inner t w = IsText t × (w ≡ t)
+
+module _ (bytes : List ℕ) where
   text_here : (i b : ℕ) (s : List ℕ) → drop i bytes ≡ b ∷ s → text_at bytes i ≡ goes_on (b ∷ s)
   text_here i b s e =
       let to : i + 0 ≡ i = omega arith in
@@ -90,22 +93,20 @@ module _ (tables : Sizes) (bytes : List ℕ) where
         ∙ ap (λ m. prefix_len (text_at bytes) (range_with_len i m)) (sym (length-drop i bytes))
         ∙ runs (drop i bytes) i refl
 
-  abbrev Inner : List ℕ → Language
-  Inner t w = IsText t × (w ≡ t)
-
   abbrev Closes : ℕ → Type 0
   Closes j = take 2 (drop j bytes) ≡ codes "/)"
 
-  inner_agrees : Agrees tables bytes read_inner (slice bytes) (plain Inner) Closes
+module _ {tables : Sizes} {bytes : List ℕ} where
+  inner_agrees : Agrees tables bytes read_inner (slice bytes) (plain Inner) (Closes bytes)
   inner_agrees = record {
     sound = λ i a j l e.
-        let t = unless_got (ltb 80 (n i)) (got (text_run bytes i) (i + n i)) _ e in
+        let t = unless_got (ltb 80 (n bytes i)) (got (text_run bytes i) (i + n bytes i)) _ e in
         let s = drop i bytes in
-        let fits : n i ≤ length s = omega (arith, run_is i, text_le s) in
-        let p : IsPlain (take (n i) s) = subst (λ n. IsPlain (take n s)) (sym (run_is i)) (text_plain s) in
-        let short : length (take (n i) s) ≤ 80 = omega (arith, ltb-false 80 (n i) t.0, length-take-le (n i) s fits) in
-        let q : Spelt (Inner (take (n i) s)) bytes i (i + n i) = spelt_front (Inner (take (n i) s)) i (n i) l fits ((p.0, p.1, short), refl) in
-        record { spelt = subst (λ s. Spelt (Inner (slice bytes s)) bytes i j) (got_what t.1) (subst (Spelt (Inner (take (n i) s)) bytes i) (got_next t.1) q); keeps = tt; fits = tt };
+        let fits : n bytes i ≤ length s = omega (arith, run_is bytes i, text_le s) in
+        let p : IsPlain (take (n bytes i) s) = subst (λ n. IsPlain (take n s)) (sym (run_is bytes i)) (text_plain s) in
+        let short : length (take (n bytes i) s) ≤ 80 = omega (arith, ltb-false 80 (n bytes i) t.0, length-take-le (n bytes i) s fits) in
+        let q : Spelt (Inner (take (n bytes i) s)) bytes i (i + n bytes i) = spelt_front (Inner (take (n bytes i) s)) i (n bytes i) l fits ((p.0, p.1, short), refl) in
+        record { spelt = subst (λ s. Spelt (Inner (slice bytes s)) bytes i j) (got_what t.1) (subst (Spelt (Inner (take (n bytes i) s)) bytes i) (got_next t.1) q); keeps = tt; fits = tt };
     complete = λ i t j s _ stop.
         let h = s.belongs in
         let f = s.forward in
@@ -113,17 +114,17 @@ module _ (tables : Sizes) (bytes : List ℕ) where
         let rest : drop j bytes ≡ 47 ∷ (41 ∷ drop 2 (drop j bytes)) = sym (take-append-drop 2 (drop j bytes)) ∙ ap (λ u. u ++ drop 2 (drop j bytes)) stop in
         let whole : drop i bytes ≡ t ++ 47 ∷ (41 ∷ drop 2 (drop j bytes)) =
         sym (take-append-drop (j - i) (drop i bytes)) ∙ (λ k. h.1 k ++ (drop-drop (j - i) i bytes ∙ ap (λ m. drop m bytes) to ∙ rest) k) in
-        let len : n i ≡ length t = run_is i ∙ ap text_len whole ∙ text_is t (drop 2 (drop j bytes)) h.0.0 h.0.1 in
+        let len : n bytes i ≡ length t = run_is bytes i ∙ ap text_len whole ∙ text_is t (drop 2 (drop j bytes)) h.0.0 h.0.1 in
         let most = h.0.2 in
-        let next : i + n i ≡ j = omega (arith, length_between bytes i j s.within, ap length h.1) in
-        found (text_run bytes i) (cond-false _ _ _ (le-ltb 80 (n i) (omega arith)) ∙ ap (got (text_run bytes i)) next)
+        let next : i + n bytes i ≡ j = omega (arith, length_between bytes i j s.within, ap length h.1) in
+        found (text_run bytes i) (cond-false _ _ _ (le-ltb 80 (n bytes i) (omega arith)) ∙ ap (got (text_run bytes i)) next)
         ((λ k. take (len k) (whole k)) ∙ take_at t (47 ∷ (41 ∷ drop 2 (drop j bytes))) (length t) refl);
   }
 
   pub text_agrees : Agrees tables bytes read_text (slice bytes) (plain Text) Anywhere
   text_agrees =
-      after_agrees tables bytes (mark_agrees tables bytes (codes "(/"))
-      (before_agrees tables bytes inner_agrees (mark_agrees tables bytes (codes "/)"))
+      after_agrees (mark_agrees (codes "(/"))
+      (before_agrees inner_agrees (mark_agrees (codes "/)"))
       (λ b i j s stop.
       let f = s.forward in
       let two : j - i ≡ 2 = omega (arith, length_between bytes i j s.within, ap length s.belongs) in

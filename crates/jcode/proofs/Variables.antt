@@ -57,19 +57,19 @@ module _ (tables : Sizes) (bytes : List ℕ) (sc : Scope) where
     variable_agrees = record {
       sound = λ i v k l e.
           let t = then_got (read_name bytes i) (known sc bytes) e in
-          record { spelt = known_spelt t.0 t.3 ((name_agrees tables bytes).sound i t.0 t.1 l t.2).spelt; keeps = tt; fits = tt };
+          record { spelt = known_spelt t.0 t.3 ((name_agrees {tables = tables}).sound i t.0 t.1 l t.2).spelt; keeps = tt; fits = tt };
       complete = λ i v j s n stop.
           let w = between bytes i j in
           let h = s.belongs in
-          finds_then tables bytes (λ v. v) (Unit {0}) v j (known sc bytes)
-          ((name_agrees tables bytes).complete i w j (record { forward = s.forward; within = s.within; belongs = (h.1, refl) }) tt stop) (λ m. m)
+          finds_then (λ v. v) (Unit {0}) v j (known sc bytes)
+          ((name_agrees {tables = tables}).complete i w j (record { forward = s.forward; within = s.within; belongs = (h.1, refl) }) tt stop) (λ m. m)
           (λ a _ is. found v (known_found a v j w h.0 is) refl);
     }
 
     pub listed_agrees : Agrees tables bytes (read_listed sc) (λ v. v) (plain (Listed sc)) (Stops name_byte bytes)
     listed_agrees =
-        spelling tables bytes (λ v. member v sc.listed ≡ true)
-        (kept_agrees tables bytes (λ v. member v sc.listed ≡ true) (λ i v j. cond (member v sc.listed) (got v j) (refuse Unknown i))
+        spelling (λ v. member v sc.listed ≡ true)
+        (kept_agrees (λ v. member v sc.listed ≡ true) (λ i v j. cond (member v sc.listed) (got v j) (refuse Unknown i))
         (λ i v j l e h. cond-true _ _ _ h)
         (λ i v j l e c k h. let u = when_got (member v sc.listed) (got v j) _ h in (u.1, u.0))
         variable_agrees)

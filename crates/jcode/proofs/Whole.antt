@@ -36,9 +36,9 @@ module _ (t : Tables) (bytes : List ℕ) where
   pub heading_agrees : Agrees sizes bytes read_heading (slice bytes) (plain Heading) Sep
   unfolding read_heading
   heading_agrees =
-      after_agrees sizes bytes (keyword_agrees sizes bytes (codes "BEGIN") refl)
-      (after_agrees sizes bytes (gap_agrees sizes bytes)
-      (before_agrees sizes bytes (name_agrees sizes bytes) (end_agrees sizes bytes) (λ b i j s stop. separator_no_name (byte bytes i) (white_begins bytes 10 refl s)))
+      after_agrees (keyword_agrees (codes "BEGIN") refl)
+      (after_agrees gap_agrees
+      (before_agrees name_agrees end_agrees (λ b i j s stop. separator_no_name (byte bytes i) (white_begins bytes 10 refl s)))
       (λ n i j s stop. let c = parts s in letter_no_separator (byte bytes i) (begins bytes letter refl (λ w h. ap (λ w. letter (get_or w 0 0)) h.1 ∙ word_first n h.0.0) c.1)))
       (λ n i j s stop. separator_no_name (byte bytes i) (white_begins bytes 32 refl (parts s).1))
 
@@ -51,7 +51,7 @@ module _ (t : Tables) (bytes : List ℕ) where
 
   body_agrees : (vs : List Variable) → IsDistinct same_word (names_of (map (declared_in bytes) vs)) → Agrees sizes bytes (read_body t vs) (map (retold (slice bytes))) (statements (scope_with (map (declared_in bytes) vs))) Sep
   body_agrees vs once =
-      same_agrees sizes bytes (read_body t vs) (λ i. ap (λ sc. read_statements sc (length t.rows) (length t.statements) (min (length t.statements) 200) [] bytes i) (scope_is vs))
+      same_agrees (read_body t vs) (λ i. ap (λ sc. read_statements sc (length t.rows) (length t.statements) (min (length t.statements) 200) [] bytes i) (scope_is vs))
       (statements_agrees sizes bytes (scope_with (map (declared_in bytes) vs)) once)
 
   abbrev rest : Production (List Declared × List (Sentence (List ℕ)))
@@ -59,7 +59,7 @@ module _ (t : Tables) (bytes : List ℕ) where
 
   rest_agrees : Agrees sizes bytes (read_rest t) (λ p. (map (declared_in bytes) p.0, map (retold (slice bytes)) p.1)) rest Sep
   rest_agrees =
-      pair_agrees sizes bytes (λ ds. statements (scope_with ds)) (declarations_agree sizes bytes) (λ vs n. body_agrees vs n.1)
+      pair_agrees (λ ds. statements (scope_with ds)) (declarations_agree sizes bytes) (λ vs n. body_agrees vs n.1)
       (λ ds _ ss i j s stop. statements_begin sizes bytes (scope_with ds) ss s stop)
 
   abbrev unit_of_parts : List ℕ × (List Declared × List (Sentence (List ℕ))) → JUnit
@@ -74,13 +74,13 @@ module _ (t : Tables) (bytes : List ℕ) where
 
   pub unit_agrees : Agrees sizes bytes (read_unit t) (unit_in bytes) units Sep
   unit_agrees =
-      renamed sizes bytes units
+      renamed units
       (λ u w h. (h.0, subst (λ u. (Heading u.name ⊙ Declarations u.variables ⊙ Statements (scope_with u.variables) u.statements) w) h.1.1 h.1.2))
       (λ u w h. (h.0, ((u.name, (u.variables, u.statements)), refl, h.1)))
       (λ t u n. n) (λ t u n. n)
-      (spelling sizes bytes {P = image unit_of_parts (both (plain Heading) (λ _. rest)) Within} IsOnce
-      (image_agrees sizes bytes located (unit_in bytes) unit_of_parts (λ t u. IsOnce u × Within t u)
-      (pair_agrees sizes bytes (λ _. rest) heading_agrees (λ s _. rest_agrees) (λ n _ p i j s stop. begin p s stop))
+      (spelling {P = image unit_of_parts (both (plain Heading) (λ _. rest)) Within} IsOnce
+      (image_agrees located (unit_in bytes) unit_of_parts (λ t u. IsOnce u × Within t u)
+      (pair_agrees (λ _. rest) heading_agrees (λ s _. rest_agrees) (λ n _ p i j s stop. begin p s stop))
       (λ p. refl)
       (λ t p n. (n.1.0.1, record { variables = n.1.0.0; statements = n.1.1.0; rows = n.1.1.1 }))
       (λ t p n. (tt, ((n.1.variables, n.0), (n.1.statements, n.1.rows))))))
@@ -94,7 +94,7 @@ module _ (t : Tables) (bytes : List ℕ) where
   heading_within i s j e =
       let k = then_got (read_keyword (codes "BEGIN") bytes i) (λ _ i. (read_gap ▷ (read_name ◁ read_end)) bytes i) e in
       let w = then_got (read_word bytes i) (λ s j. cond (same_word (slice bytes s) (codes "BEGIN")) (got tt j) (refuse Missing i)) k.2 in
-      let first = (word_is sizes bytes w.2).0 in
+      let first = (word_is bytes w.2).0 in
       ⊎_elim
       (λ h. h)
       (λ h. absurd (both_ways (letter 0) refl (ap letter (sym (get_or_past bytes i 0 h)) ∙ first)))

@@ -23,7 +23,7 @@ Word n w = (is_word n ≡ true) × (w ≡ n)
 pub word_first : (n : List ℕ) → is_word n ≡ true → letter (get_or n 0 0) ≡ true
 word_first n e = sym (passes_byte letter refl n 0) ∙ (and_parts _ _ e).0
 
-module _ (tables : Sizes) (bytes : List ℕ) where
+module _ (bytes : List ℕ) where
   -- what a word's reading tells
   pub word_is : {i : ℕ} {s : Span} {j : ℕ} → read_word bytes i ≡ got s j → (letter (byte bytes i) ≡ true) × (run_at name_byte bytes i ≡ s) × (i + run name_byte bytes i ≡ j)
   word_is {i = i} e =
@@ -45,14 +45,15 @@ module _ (tables : Sizes) (bytes : List ℕ) where
       let h = f.within in
       subst (λ s. length (slice bytes s) ≡ s.length) t.1 (omega (arith, length-take (run name_byte bytes i) (drop i bytes), length-drop i bytes))
 
+module _ {tables : Sizes} {bytes : List ℕ} where
   pub word_agrees : Agrees tables bytes read_word (slice bytes) (plain Word) (Stops name_byte bytes)
   word_agrees = record {
     sound = λ i a j l e.
-        let t = word_is e in
+        let t = word_is bytes e in
         let n = run name_byte bytes i in
         let s = slice bytes (run_at name_byte bytes i) in
         let to : i + 0 ≡ i = omega arith in
-        let first : letter (get_or s 0 0) ≡ true = ap letter (get_or-take n (drop i bytes) 0 0 (word_begins i t.0) ∙ get_or-drop i bytes 0 0 ∙ ap (byte bytes) to) ∙ t.0 in
+        let first : letter (get_or s 0 0) ≡ true = ap letter (get_or-take n (drop i bytes) 0 0 (word_begins bytes i t.0) ∙ get_or-drop i bytes 0 0 ∙ ap (byte bytes) to) ∙ t.0 in
         let is : is_word s ≡ true = and_from _ _ (passes_byte letter refl s 0 ∙ first) (front_passes name_byte bytes i) in
         let p : Spelt (Word s) bytes i (i + n) = spelt_as (λ w h. (is, h)) (front_spelt name_byte bytes i l) in
         record { spelt = subst (λ s. Spelt (Word (slice bytes s)) bytes i j) t.1 (subst (Spelt (Word s) bytes i) t.2 p); keeps = tt; fits = tt };
@@ -73,12 +74,12 @@ module _ (tables : Sizes) (bytes : List ℕ) where
     where
       short_words : Agrees tables bytes read_name (slice bytes) (record { spells = λ n w. (length n ≤ 32) × Word n w; needs = λ t n. Unit {0} }) (Stops name_byte bytes)
       short_words =
-          spelling tables bytes (λ n. length n ≤ 32)
-          (kept_agrees tables bytes (λ n. length n ≤ 32) (λ _ s j. short_enough s j)
-          (λ i a j l e h. cond-false _ _ _ (le-ltb 32 a.length (omega (arith, word_length l e))))
+          spelling (λ n. length n ≤ 32)
+          (kept_agrees (λ n. length n ≤ 32) (λ _ s j. short_enough s j)
+          (λ i a j l e h. cond-false _ _ _ (le-ltb 32 a.length (omega (arith, word_length bytes l e))))
           (λ i a j l e c k h. let u = unless_got (ltb 32 a.length) (got a j) _ h in
           let m = ltb-false 32 a.length u.0 in
-          (u.1, omega (arith, word_length l e)))
+          (u.1, omega (arith, word_length bytes l e)))
           word_agrees)
 
   pub keyword_agrees : (k : List ℕ) → is_word k ≡ true → Agrees tables bytes (read_keyword k) (λ u. u) (mark (Just k)) (Stops name_byte bytes)
@@ -89,7 +90,7 @@ module _ (tables : Sizes) (bytes : List ℕ) where
         let s = word_agrees.sound i t.0 t.1 l t.2 in
         record { spelt = subst (Spelt (Just k) bytes i) (got_next u.1) (spelt_as (λ w h. h.1 ∙ same_words _ k u.0) s.spelt); keeps = tt; fits = tt };
     complete = λ i b j s n stop.
-        finds_then tables bytes (λ u. u) (Unit {0}) tt j (λ s j. cond (same_word (slice bytes s) k) (got tt j) (refuse Missing i))
+        finds_then (λ u. u) (Unit {0}) tt j (λ s j. cond (same_word (slice bytes s) k) (got tt j) (refuse Missing i))
         (word_agrees.complete i k j (spelt_as (λ w h. (word, h)) s) tt stop) (λ m. tt)
         (λ a _ is. found tt (cond-true _ _ _ (ap (λ w. same_word w k) is ∙ same_refl k)) refl);
   }

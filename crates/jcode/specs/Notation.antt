@@ -1,5 +1,5 @@
 -- Reading accepts exactly the units that the notation allows.
-use Rattle.std.specs.Prelude.{◌≡◌, ℕ, false, List, length, take, Ok, Err, Result}
+use Rattle.std.specs.Prelude.{◌≡◌, ℕ, ◌<◌, ◌≤◌, false, List, length, take, Ok, Err, Result}
 use Rattle.jcode.specs.declared.reader.Outline.{Outline}
 use Rattle.jcode.specs.declared.refusal.ReadFault.{ReadFault}
 use Rattle.jcode.specs.declared.refusal.Refusal.TheVariants.{Table}
@@ -28,6 +28,9 @@ pub record IsUnit (bytes : List ℕ) (start next : ℕ) (u : JUnit) : Type 0 whe
 pub record TellsUnit (bytes : List ℕ) (start : ℕ) (most : Sizes) (o : Outline) (u : JUnit) : Type 0 where
   pub is : IsUnit bytes start o.next u
   pub fits : Within most u
+  -- reading goes forward
+  pub forward : start < o.next
+  pub within : o.next ≤ length bytes
   pub variables : o.variables ≡ length u.variables
   pub statements : o.statements ≡ length u.statements
   pub rows : o.rows ≡ length (rows_all u.statements)

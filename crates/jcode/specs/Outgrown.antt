@@ -1,5 +1,5 @@
 -- What it means that tables are too short for a unit, as far as it was read.
-use Rattle.std.specs.Prelude.{◌≡◌, ℕ, zero, suc, ◌+◌, ◌<◌, ◌≤◌, Bool, true, false, ◌⊎◌, List, [], length, codes}
+use Rattle.std.specs.Prelude.{◌≡◌, ℕ, zero, suc, ◌+◌, ◌<◌, Bool, true, false, ◌⊎◌, List, [], length, codes}
 use Rattle.jcode.specs.Language.{Language, ◌⊙◌, Many, Just, Gap, MayGap, Spelt}
 use Rattle.jcode.specs.Spelling.{Sizes, Variable, Leader, Lead, Term, Expression, Bracketed, Listing, Says, Declarations, scope_with, Heading}
 use Rattle.jcode.specs.Scopes.{Scope, listing}
@@ -34,8 +34,8 @@ pub data Interrupted (sc : Scope) (n : ℕ) (w : List ℕ) : Type 0 where
 abbrev pub Front : List ℕ → List Declared → List (Sentence (List ℕ)) → Language
 Front name ds ss = Heading name ⊙ Declarations ds ⊙ Many (Says (scope_with ds)) (Just []) ss
 
--- what stands before a place fills a table, and is no more than the notation allows
+-- what stands before a place fills a table, and falls short of the notation's limit
 pub data IsOutgrown (most : Sizes) (bytes : List ℕ) (start place : ℕ) : Type 0 where
-  by_variables : (name : List ℕ) (ds : List Declared) → Spelt (Front name ds []) bytes start place → most.variables ≤ length ds → length ds < 32 → IsOutgrown most bytes start place
-  by_statements : (name : List ℕ) (ds : List Declared) (ss : List (Sentence (List ℕ))) → Spelt (Front name ds ss) bytes start place → most.statements ≤ length ss → length ss < 200 → IsOutgrown most bytes start place
-  by_rows : (name : List ℕ) (ds : List Declared) (ss : List (Sentence (List ℕ))) (next n : ℕ) → Spelt (Front name ds ss) bytes start next → Spelt (Interrupted (scope_with ds) n) bytes next place → most.rows ≤ length (rows_all ss) + n → length (rows_all ss) + n < 2000 → IsOutgrown most bytes start place
+  by_variables : (name : List ℕ) (ds : List Declared) → Spelt (Front name ds []) bytes start place → length ds ≡ most.variables → length ds < 32 → IsOutgrown most bytes start place
+  by_statements : (name : List ℕ) (ds : List Declared) (ss : List (Sentence (List ℕ))) → Spelt (Front name ds ss) bytes start place → length ss ≡ most.statements → length ss < 200 → IsOutgrown most bytes start place
+  by_rows : (name : List ℕ) (ds : List Declared) (ss : List (Sentence (List ℕ))) (next n : ℕ) → Spelt (Front name ds ss) bytes start next → Spelt (Interrupted (scope_with ds) n) bytes next place → length (rows_all ss) + n ≡ most.rows → length (rows_all ss) + n < 2000 → IsOutgrown most bytes start place

@@ -11,8 +11,8 @@ use Rattle.terms.specs.Numbers.{same_number, truth}
 use Rattle.terms.specs.Terms.{fold, value}
 use Rattle.reckoning.specs.Kinds.{kind_given, kinds, kind_of, IsKinded}
 use Rattle.sheets.specs.declared.cell.Cell.{Cell}
-use Rattle.sheets.specs.Sheets.{CellTerm, Condition, part, cell_kind, setting_term, Sets, is_true_term, Keeps}
-use Rattle.sheets.proofs.Spanning.{is_its_kind}
+use Rattle.sheets.specs.Sheets.{CellTerm, Condition, part, cell_kind, setting_term, Sets, Keeps}
+use Rattle.sheets.proofs.Spanning.{part_truth}
 use Rattle.sheets.specs.Valuations.{cell_in, Within, GoalAloneFalse}
 
 clash : {X : Type 0} → false ≡ true → X
@@ -42,9 +42,6 @@ within_at (d ∷ cs) [] within i c is = clash within
 within_at (d ∷ cs) (n ∷ v) within zero c is = let same : d ≡ c = cc in subst (λ e. (int_le e.low n && int_le n e.high) ≡ true) same (and_parts _ _ within).0
 within_at (d ∷ cs) (n ∷ v) within (suc i) c is = within_at cs v (and_parts _ _ within).1 i c is
 
-pub truth_part : (s : Condition) → Keeps s → (p : ℕ) → p < length s.parts → IsKinded (cell_kind s.cells) Truth (part s p)
-truth_part s keeps p lt = is_its_kind _ Truth (at_each (is_true_term s.cells) s.parts p [] keeps.truths lt)
-
 -- the second operand of `equal!` has a kind
 equal_kind : (a b c : Option Kind) (k : Kind) → kind_given Equal a b c ≡ Some k → (j : Kind) × (b ≡ Some j)
 equal_kind a None c k e = absurd (go a e)
@@ -63,7 +60,7 @@ module _ (s : Condition) (keeps : Keeps s) (p i : ℕ) (sets : Sets s p i) where
   pub setting_kind : (j : Kind) × IsKinded (cell_kind s.cells) j (setting_term (part s p))
   setting_kind =
       equal_kind (cell_kind s.cells i) (kind_of (cell_kind s.cells) (setting_term (part s p))) (slice_index_or (fold (kinds (cell_kind s.cells)) (setting_term (part s p))) 1 None) Truth
-      (sym (ap (kind_of (cell_kind s.cells)) sets.shape) ∙ truth_part s keeps p (let e = sets.earlier in omega arith))
+      (sym (ap (kind_of (cell_kind s.cells)) sets.shape) ∙ part_truth s keeps p (let e = sets.earlier in omega arith))
 
   -- and it is true exactly where the cell has that term's number
   pub part_value : (env : ℕ → ℤ) → value env (part s p) ≡ truth (same_number (env i) (value env (setting_term (part s p))))

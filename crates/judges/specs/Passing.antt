@@ -22,10 +22,10 @@ use Rattle.reckoning.proofs.Mentioning.{mentions_all}
 use Rattle.sheets.specs.declared.cell.Cell.{Cell}
 use Rattle.sheets.specs.Sheets.{CellTerm, Condition, part, cell_kind, set_by, is_some_of, is_set_by, cell_set, setting_term, Keeps}
 use Rattle.sheets.specs.Valuations.{cell_in, GoalAloneFalse, Falsifies}
-use Rattle.sheets.proofs.Spanning.{kindly}
+use Rattle.sheets.proofs.Spanning.{kindly, part_truth}
 use Rattle.sheets.specs.Judges.{passed, Sound}
 use Rattle.judges.specs.Passes.{bounds_mark, marked, unless_no, after_part, by_goal, pass_or, pass_from, pass}
-use Rattle.judges.specs.Keeping.{within_at, truth_part, setting_kind, set_value}
+use Rattle.judges.specs.Keeping.{within_at, setting_kind, set_value}
 
 none : {X A : Type 0} (x : A) → None ≡ Some x → X
 none x e = absurd (let z : ◌≡◌ {A = ℕ} 0 1 = cc in omega arith)
@@ -90,7 +90,7 @@ module _ (covers : Mark → ℤ → Type 0) (r : Meaning) (laws : Lawful covers 
   after p lt holds None at marks told = go (r.decided (marked r marks (part s p))) refl
     where
       go : (d : Decision) → r.decided (marked r marks (part s p)) ≡ d → Left (unless_no d marks)
-      go No is = laws.denied _ is (subst (covers (marked r marks (part s p))) holds (covered marks told (part s p) Truth (truth_part s keeps p (omega arith))))
+      go No is = laws.denied _ is (subst (covers (marked r marks (part s p))) holds (covered marks told (part s p) Truth (part_truth s keeps p (omega arith))))
       go Yes is = told
       go Unknown is = told
   after p lt holds (Some i) at marks told = go (r.met (slice_index_or marks i r.anything) (marked r marks term)) refl
@@ -120,7 +120,7 @@ module _ (covers : Mark → ℤ → Type 0) (r : Meaning) (laws : Lawful covers 
   by_the_goal p lt fails marks told = go (r.decided (marked r marks (part s p))) refl
     where
       go : (d : Decision) → r.decided (marked r marks (part s p)) ≡ d → by_goal d ≡ passed → ⊥
-      go Yes is e = laws.affirmed _ is (subst (covers (marked r marks (part s p))) fails (covered marks told (part s p) Truth (truth_part s keeps p lt)))
+      go Yes is e = laws.affirmed _ is (subst (covers (marked r marks (part s p))) fails (covered marks told (part s p) Truth (part_truth s keeps p lt)))
       go No is e = let z : ◌≡◌ {A = ℕ} 0 1 = cc in omega arith
       go Unknown is e = let z : ◌≡◌ {A = ℕ} 0 1 = cc in omega arith
 

@@ -1,6 +1,6 @@
 // Passes: what a reckoning finds of a sheet, part by part.
 
-ghost use Rattle.std.specs.Prelude.{◌≡◌, ◌+◌, ◌<◌, ◌≤◌, length, map, drop, None, Some, replicate, take};
+ghost use Rattle.std.specs.Prelude.{◌≡◌, ◌<◌, ◌≤◌, length, map, Some};
 ghost use Rattle.sheets.specs.Places.{cells_in, rows_in, says};
 ghost use Rattle.judges.specs.Passes.{bounds_mark, marked, after_part, Left, by_goal, answer_of, pass as passes, pass_from};
 ghost use Rattle.judges.specs.Passing.{pass_sound};

@@ -4,7 +4,7 @@ ghost use Rattle.std.specs.Prelude.{◌≡◌, ◌≤◌, length};
 ghost use Rattle.sheets.specs.Judges.{Told};
 ghost use Rattle.sheets.specs.Places.{cells_in, marks_for, says};
 ghost use Rattle.judges.specs.Tries.{trier};
-ghost use Rattle.judges.specs.Trying.{Settles, trier_settles, trier_sound};
+ghost use Rattle.judges.specs.Trying.{Settles, trier_sound};
 
 use super::ranges::{are_few, set_ranges};
 use super::tries::{find, start};

@@ -1,13 +1,13 @@
 // Tries: the valuations that the trier goes through, each from the one before it.
 
-ghost use Rattle.std.specs.Prelude.{◌≡◌, ◌+◌, ◌<◌, ◌≤◌, [], ◌∷◌, true, false, length, map, drop, take, pos, slice_index_or, Some, None};
+ghost use Rattle.std.specs.Prelude.{◌≡◌, ◌<◌, ◌≤◌, [], true, false, length, map, slice_index_or, Some, None};
 ghost use Rattle.std.specs.Bool.{OnTrue, OnFalse};
 ghost use Rattle.sheets.specs.Sheets.{set_by};
 ghost use Rattle.sheets.specs.Places.{cells_in, rows_in, says};
 ghost use Rattle.sheets.specs.Valuations.{Within};
 ghost use Rattle.judges.specs.Tries.{is_refuted as is_refuted_of, ranges as ranges_of};
 ghost use Rattle.judges.specs.Ranging.{no_cell};
-ghost use Rattle.judges.specs.Walks.{walk, first, later, left, begun, is_open, stepped, turning, Turned, Followed};
+ghost use Rattle.judges.specs.Walks.{walk, first, begun, is_open, stepped, turning, Turned, Followed};
 
 use super::number::number_of;
 use reckoning::mark::Mark;

@@ -1,7 +1,7 @@
 // Judges that keep state, borrow or propose nonsense: each meets the trait.
 
 ghost use Rattle.std.specs.Prelude.{◌≡◌, min, length, take, drop, replicate, pos};
-ghost use Rattle.sheet_trials.specs.Trying.{never_knows, never_passes, all_seven, seven_never_passes};
+ghost use Rattle.sheet_trials.specs.Trying.{never_knows, never_passes, all_seven, seven_never_passes, proposes, proposer_never_passes};
 
 use reckoning::mark::{ANY, Mark};
 use sheets::judge::{Answer, Judge, clear, has_room};
@@ -9,8 +9,8 @@ use sheets::sheet::Sheet;
 
 // Never knows, and counts how often it is asked.
 #[derive(Drop)]
-struct Counting {
-    asked: u64,
+pub(super) struct Counting {
+    pub(super) asked: u64,
 }
 
 impl Judge for Counting {
@@ -29,7 +29,7 @@ impl Judge for Counting {
 
 // Proposes 7 for each cell, whatever its bounds.
 #[derive(Drop)]
-struct Seven;
+pub(super) struct Seven;
 
 fn write_sevens(valuation: &mut [i64], cells: usize)
     ensures written { take cells valuation.new ≡ replicate (min cells (length valuation.old)) (pos 7) }
@@ -50,6 +50,30 @@ impl Judge for Seven {
             return Answer::Unsure;
         }
         write_sevens(valuation, sheet.cells().len());
+        Answer::Fail
+    }
+}
+
+// Proposes these numbers for each sheet of four cells.
+#[derive(Drop)]
+pub(super) struct Proposing {
+    pub(super) numbers: [i64; 4],
+}
+
+impl Judge for Proposing {
+    ghost meaning = { λ s. proposes s.numbers };
+
+    ghost sound = { λ s. proposer_never_passes s.numbers };
+
+    fn ask(&mut self, sheet: &Sheet<'_>, valuation: &mut [i64], working: &mut [Mark]) -> Answer {
+        if !has_room(sheet, valuation, working) {
+            return Answer::Unsure;
+        }
+        if sheet.cells().len() != 4 {
+            clear(valuation, sheet.cells().len());
+            return Answer::Unsure;
+        }
+        valuation[..4].copy_from_slice(&self.numbers);
         Answer::Fail
     }
 }

@@ -29,3 +29,4 @@ pub mod Telling
 pub mod Spanning
 pub mod Replaying
 pub mod Deciding
+pub mod Kept

@@ -10,29 +10,23 @@ use Rattle.std.proofs.lemmas.Int.{ints}
 use Rattle.std.proofs.lemmas.List.{length-map, length-take, length-drop, get_or-map, get_or_past, take_more_set, map_more}
 use Rattle.std.proofs.lemmas.List.Sums.{AllPass-from_list_all}
 use Rattle.std.proofs.lemmas.Option.{slice_get-get_or}
-use Rattle.terms.specs.declared.kind.Kind.{Kind}
 use Rattle.terms.specs.declared.kind.Kind.TheVariants.{Truth}
 use Rattle.terms.specs.declared.row.Row.{Row}
-use Rattle.terms.specs.declared.row.Row.TheVariants.{Constant, Mention, Operator as Applied}
 use Rattle.terms.specs.Numbers.{in_span, same_number}
 use Rattle.terms.specs.Terms.{value}
 use Rattle.reckoning.specs.declared.mark.Mark.{Mark}
 use Rattle.reckoning.specs.Points.{is_point, point, point_or}
 use Rattle.reckoning.specs.Ranges.{between}
-use Rattle.reckoning.specs.Evaluation.{Mentions}
 use Rattle.reckoning.specs.Exactness.{Exact}
-use Rattle.reckoning.specs.Kinds.{kind_of}
-use Rattle.reckoning.specs.Spanning.{ranged_rows}
-use Rattle.checking.specs.Nesting.{writes_term}
 use Rattle.sheets.specs.declared.cell.Cell.{Cell}
 use Rattle.sheets.specs.declared.part.Part.{Part}
-use Rattle.sheets.specs.Sheets.{CellTerm, Condition, Keeps, cell_kind, cell_bounds, is_bounded, is_true_term, part_in, condition_of, part}
+use Rattle.sheets.specs.Sheets.{CellTerm, Condition, Keeps, cell_kind, is_bounded, part_in, condition_of, part}
 use Rattle.sheets.specs.Valuations.{allows, cell_in, is_within, GoalAloneFalse}
 use Rattle.sheets.specs.declared.sheet.Sheet.{Sheet}
 use Rattle.sheets.specs.Places.{cells_in, says, marks_for}
 use Rattle.sheets.specs.Replays.{first_numbers, Replayed, numbers_in}
-use Rattle.sheets.proofs.Setters.{clash, unlike}
-use Rattle.sheets.proofs.Spanning.{is_its_kind, term_whole, mentions_kinded, kindly, part_stays, in_first, in_cell_span}
+use Rattle.sheets.proofs.Setters.{clash}
+use Rattle.sheets.proofs.Spanning.{mentions_map, kindly, part_truth, part_mentions, part_stays, in_first, in_cell_span}
 
 -- one more mark is placed
 pub placed : (marks : List Mark) (numbers : List ℤ) (i : ℕ) → i < length marks → i < length numbers → take i marks ≡ map (λ n. between n n) (take i numbers) → take (i + 1) (set marks i (between (get_or numbers i (pos 0)) (get_or numbers i (pos 0)))) ≡ map (λ n. between n n) (take (i + 1) numbers)
@@ -95,12 +89,6 @@ module _ (v : List ℤ) (es : List CellTerm) (g : ℕ) (some : 0 < length es) (l
       let zero = told o (value (cell_in v) (get_or es g [])) (pos 0) e in
       (λ h. alone_false v es g (omega arith) others (zero.0 h), λ f. zero.1 (goal_false v es f g (omega arith)))
 
-mentions_map : {M : Type 0} (P Q : M → Type 0) → ((m : M) → P m → Q m) → (rs : List (Row M)) → Mentions P rs → Mentions Q rs
-mentions_map P Q f [] h = tt
-mentions_map P Q f (Constant z ∷ rs) h = mentions_map P Q f rs h
-mentions_map P Q f (Mention m ∷ rs) h = (f m h.0, mentions_map P Q f rs h.1)
-mentions_map P Q f (Applied o ∷ rs) h = mentions_map P Q f rs h
-
 -- a point is that of its number
 its_point : (m : Mark) → is_point m ≡ true → point m.low ≡ m
 its_point m h =
@@ -113,11 +101,6 @@ within_length [] [] h = refl
 within_length [] (x ∷ xs) h = clash h
 within_length (c ∷ cs) [] h = clash h
 within_length (c ∷ cs) (x ∷ xs) h = ap suc (within_length cs xs (and_parts _ _ h).1)
-
-has_kind : (cs : List Cell) (m : ℕ) (k : Kind) → cell_kind cs m ≡ Some k → m < length cs
-has_kind [] m k e = unlike e
-has_kind (c ∷ cs) zero k e = omega arith
-has_kind (c ∷ cs) (suc m) k e = let more = has_kind cs m k e in omega arith
 
 -- the parts of a sheet, each at a place
 module _ (rows : List (Row ℕ)) (parts : List Part) (cells : List Cell) where
@@ -137,18 +120,12 @@ module _ (rows : List (Row ℕ)) (parts : List Part) (cells : List Cell) where
   pub part_number : Keeps c → (ms : List Mark) → list_all is_point ms ≡ true → is_within cells (numbers_in ms) ≡ true → (p : ℕ) → p < length parts → (answer : Option ℤ) → Exact (slice_get ms) (part c p) answer → answer ≡ Some (value (cell_in (numbers_in ms)) (part c p))
   part_number kept ms points within p there answer exact =
       let l : p < length c.parts = omega (arith, length-map parts (part_in rows)) in
-      let complete = AllPass-from_list_all (writes_term 33) c.parts kept.complete p [] l in
-      let truth = AllPass-from_list_all (is_true_term cells) c.parts kept.truths p [] l in
-      let ranged = AllPass-from_list_all (ranged_rows (cell_bounds cells)) c.parts kept.ranged p [] l in
-      let is = is_its_kind (kind_of (cell_kind cells) (part c p)) Truth truth in
-      let stays = part_stays cells (numbers_in ms) kept.bounded within (part c p) complete truth ranged in
-      let kinded = mentions_kinded (cell_kind cells) (part c p) (term_whole (cell_kind cells) (part c p) Truth complete is) in
-      exact (cell_kind cells) (cell_in (numbers_in ms)) Truth is (kindly cells (numbers_in ms) kept.bounded within (part c p))
-      (mentions_map (λ m. (k : Kind) × (cell_kind cells m ≡ Some k)) (λ m. slice_get ms m ≡ Some (point (cell_in (numbers_in ms) m))) at (part c p) kinded) stays.spans
+      exact (cell_kind cells) (cell_in (numbers_in ms)) Truth (part_truth c kept p l) (kindly cells (numbers_in ms) kept.bounded within (part c p))
+      (mentions_map (λ m. m < length cells) (λ m. slice_get ms m ≡ Some (point (cell_in (numbers_in ms) m))) at (part c p) (part_mentions c kept p l)) (part_stays c kept p l (numbers_in ms) within).spans
     where
-      at : (m : ℕ) → (k : Kind) × (cell_kind cells m ≡ Some k) → slice_get ms m ≡ Some (point (cell_in (numbers_in ms) m))
+      at : (m : ℕ) → m < length cells → slice_get ms m ≡ Some (point (cell_in (numbers_in ms) m))
       at m h =
-          let l : m < length ms = omega (arith, has_kind cells m h.0 h.1, within_length cells (numbers_in ms) within, length-map ms (λ m. m.low)) in
+          let l : m < length ms = omega (arith, h, within_length cells (numbers_in ms) within, length-map ms (λ m. m.low)) in
           let d = between (pos 0) (pos 0) in
           let here = AllPass-from_list_all is_point ms points m d l in
           slice_get-get_or ms m d l ∙ ap Some (sym (ap point (get_or-map (λ m. m.low) ms m d (pos 0) l) ∙ its_point (get_or ms m d) here))

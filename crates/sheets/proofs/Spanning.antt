@@ -1,9 +1,10 @@
 -- The parts of a sheet at a valuation within its bounds: every row stays in the span, and a part is 0 or 1.
-use Rattle.std.proofs.Common.{◌≡◌, ℕ, zero, suc, ◌<◌, Bool, true, false, cond, ◌&&◌, List, [], ◌∷◌, length, get_or, drop, ℤ, ◌≤ℤ◌, int_le, Some, None, Option, refl, sym, ◌∙◌, subst, arith}
+use Rattle.std.proofs.Common.{◌≡◌, ℕ, zero, suc, ◌<◌, Bool, true, false, cond, ◌&&◌, List, [], ◌∷◌, length, get_or, drop, ℤ, ◌≤ℤ◌, int_le, Some, None, Option, refl, sym, ◌∙◌, subst, arith, ap}
 use Rattle.std.specs.List.{list_all, slice_get}
 use Rattle.std.specs.Option.{option_map}
 use Rattle.std.proofs.lemmas.Int.{ints}
 use Rattle.std.proofs.lemmas.Bool.{and_parts}
+use Rattle.std.proofs.lemmas.List.Sums.{AllPass-from_list_all}
 use Rattle.terms.specs.declared.kind.Kind.{Kind}
 use Rattle.terms.specs.declared.kind.Kind.TheVariants.{Number, Truth}
 use Rattle.terms.specs.declared.kind.Sort.{Sort}
@@ -15,7 +16,7 @@ use Rattle.terms.specs.Numbers.{in_span}
 use Rattle.terms.specs.Terms.{fold, value}
 use Rattle.terms.proofs.Stacking.{length-fold}
 use Rattle.reckoning.specs.declared.mark.Mark.{Mark}
-use Rattle.reckoning.specs.Kinds.{is_truth, of_kind, asked, is_kind, kinds_fit, kind_given, kinds, kind_of}
+use Rattle.reckoning.specs.Kinds.{is_truth, of_kind, asked, is_kind, kinds_fit, kind_given, kinds, kind_of, IsKinded}
 use Rattle.reckoning.specs.Ranges.{is_range, between, ranges}
 use Rattle.reckoning.specs.Rangewise.{lawful}
 use Rattle.reckoning.specs.Hulls.{Holds}
@@ -28,12 +29,12 @@ use Rattle.reckoning.proofs.Kinding.{kind_holds}
 use Rattle.reckoning.proofs.Mentioning.{mentions_all}
 use Rattle.checking.specs.Nesting.{nesting, single, writes_term}
 use Rattle.sheets.specs.declared.cell.Cell.{Cell}
-use Rattle.sheets.specs.Sheets.{CellTerm, cell_kind, cell_bounds, is_bound, is_bounded, is_true_term}
-use Rattle.sheets.specs.Valuations.{cell_in, is_within}
+use Rattle.sheets.specs.Sheets.{CellTerm, Condition, Keeps, part, cell_kind, cell_bounds, is_bound, is_bounded, is_true_term}
+use Rattle.sheets.specs.Valuations.{cell_in, is_within, Within}
 use Rattle.sheets.proofs.Setters.{clash, unlike}
 
 -- no entry is missing
-abbrev pub Whole : {K : Type 0} → List (Option K) → Type 0
+abbrev Whole : {K : Type 0} → List (Option K) → Type 0
 Whole [] = Unit {0}
 Whole (None ∷ ks) = ⊥
 Whole (Some k ∷ ks) = Whole ks
@@ -98,7 +99,7 @@ module _ {M : Type 0} (at : M → Option Kind) where
   some_left (Applied o) rs = omega arith
 
   -- each mention has a kind
-  pub mentions_kinded : (rs : List (Row M)) → Whole (kinds_left rs) → Mentions (λ m. (k : Kind) × (at m ≡ Some k)) rs
+  mentions_kinded : (rs : List (Row M)) → Whole (kinds_left rs) → Mentions (λ m. (k : Kind) × (at m ≡ Some k)) rs
   mentions_kinded [] w = tt
   mentions_kinded (Constant z ∷ rs) w = mentions_kinded rs w
   mentions_kinded (Mention m ∷ rs) w = (there (at m) refl w, mentions_kinded rs (rest_whole (Mention m) rs w))
@@ -109,7 +110,7 @@ module _ {M : Type 0} (at : M → Option Kind) where
   mentions_kinded (Applied o ∷ rs) w = mentions_kinded rs (rest_whole (Applied o) rs w)
 
   -- one term of a kind leaves nothing without one
-  pub term_whole : (rs : List (Row M)) (k : Kind) → writes_term 33 rs ≡ true → kind_of at rs ≡ Some k → Whole (kinds_left rs)
+  term_whole : (rs : List (Row M)) (k : Kind) → writes_term 33 rs ≡ true → kind_of at rs ≡ Some k → Whole (kinds_left rs)
   term_whole rs k e is = one_whole (kinds_left rs) k (length-fold (kinds at) rs ∙ sym (length-fold (nesting 33) rs) ∙ one (fold (nesting 33) rs) e) is
     where
       one : (ns : List (Option ℕ)) → single ns ≡ true → length ns ≡ 1
@@ -118,12 +119,23 @@ module _ {M : Type 0} (at : M → Option Kind) where
       one (Some n ∷ []) e = refl
       one (Some n ∷ m ∷ ns) e = clash e
 
-pub is_its_kind : (o : Option Kind) (k : Kind) → is_kind o k ≡ true → o ≡ Some k
+is_its_kind : (o : Option Kind) (k : Kind) → is_kind o k ≡ true → o ≡ Some k
 is_its_kind None k e = clash e
 is_its_kind (Some Number) Number e = refl
 is_its_kind (Some Number) Truth e = clash e
 is_its_kind (Some Truth) Number e = clash e
 is_its_kind (Some Truth) Truth e = refl
+
+has_kind : (cs : List Cell) (m : ℕ) (k : Kind) → cell_kind cs m ≡ Some k → m < length cs
+has_kind [] m k e = unlike e
+has_kind (c ∷ cs) zero k e = omega arith
+has_kind (c ∷ cs) (suc m) k e = let more = has_kind cs m k e in omega arith
+
+pub mentions_map : {M : Type 0} (P Q : M → Type 0) → ((m : M) → P m → Q m) → (rs : List (Row M)) → Mentions P rs → Mentions Q rs
+mentions_map P Q f [] h = tt
+mentions_map P Q f (Constant z ∷ rs) h = mentions_map P Q f rs h
+mentions_map P Q f (Mention m ∷ rs) h = (f m h.0, mentions_map P Q f rs h.1)
+mentions_map P Q f (Applied o ∷ rs) h = mentions_map P Q f rs h
 
 -- a number within a range is in the span
 in_span_of : (m : Mark) (n : ℤ) → is_range m ≡ true → Holds m n → in_span n ≡ true
@@ -195,10 +207,30 @@ module _ (cs : List Cell) (v : List ℤ) (bounded : list_all is_bounded cs ≡ t
       let mark = covering Holds ranges lawful (cell_bounds cs) (x ∷ rs) (cell_kind cs) (cell_in v) first.0 first.1 (kindly (x ∷ rs)) (covered (x ∷ rs)) in
       (in_span_of (mark_of ranges (cell_bounds cs) (x ∷ rs)) (value (cell_in v) (x ∷ rs)) t.0 mark, all_span rs (rest_whole (cell_kind cs) x rs w) t.1)
 
-  pub part_stays : (e : CellTerm) → writes_term 33 e ≡ true → is_true_term cs e ≡ true → ranged_rows (cell_bounds cs) e ≡ true → Stays v e
-  part_stays e complete truth ranged =
+  term_stays : (e : CellTerm) → writes_term 33 e ≡ true → is_true_term cs e ≡ true → ranged_rows (cell_bounds cs) e ≡ true → Stays v e
+  term_stays e complete truth ranged =
       let is = is_its_kind (kind_of (cell_kind cs) e) Truth truth in
       record {
         spans = all_span e (term_whole (cell_kind cs) e Truth complete is) ranged;
         truth = kind_holds (cell_kind cs) (cell_in v) e (kindly e) Truth is;
       }
+
+-- a part of a condition that keeps the rules
+module _ (c : Condition) (kept : Keeps c) (p : ℕ) (there : p < length c.parts) where
+  pub part_complete : writes_term 33 (part c p) ≡ true
+  part_complete = AllPass-from_list_all (writes_term 33) c.parts kept.complete p [] there
+
+  pub part_truth : IsKinded (cell_kind c.cells) Truth (part c p)
+  part_truth = is_its_kind (kind_of (cell_kind c.cells) (part c p)) Truth (AllPass-from_list_all (is_true_term c.cells) c.parts kept.truths p [] there)
+
+  pub part_ranged : ranged_rows (cell_bounds c.cells) (part c p) ≡ true
+  part_ranged = AllPass-from_list_all (ranged_rows (cell_bounds c.cells)) c.parts kept.ranged p [] there
+
+  -- it mentions only cells that there are
+  pub part_mentions : Mentions (λ m. m < length c.cells) (part c p)
+  part_mentions =
+      mentions_map (λ m. (k : Kind) × (cell_kind c.cells m ≡ Some k)) (λ m. m < length c.cells) (λ m h. has_kind c.cells m h.0 h.1) (part c p)
+      (mentions_kinded (cell_kind c.cells) (part c p) (term_whole (cell_kind c.cells) (part c p) Truth part_complete part_truth))
+
+  pub part_stays : (v : List ℤ) → Within c.cells v → Stays v (part c p)
+  part_stays v within = term_stays c.cells v kept.bounded within (part c p) part_complete (ap (λ k. is_kind k Truth) part_truth) part_ranged

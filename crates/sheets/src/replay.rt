@@ -28,7 +28,7 @@ struct Valued<'a> {
 }
 
 impl Valued<'_> {
-    // The number of a part, which is the first row of no more than the stack has room for.
+    // The number of a part, which its points tell exactly.
     fn number(&self, place: usize, stack: &mut [Mark]) -> Option<i64>
         requires there { place < length (parts_in self.now.sheet) }
         requires room { length (rows_in self.now.sheet) ≤ length stack.old }
@@ -86,7 +86,7 @@ fn place_points(marks: &mut [Mark], numbers: &[i64])
     }
 }
 
-// Whether the first numbers of a valuation, one for each cell, falsify a sheet; the working marks have any numbers then. A refusal leaves them as they were.
+// Whether the first numbers of a valuation, one for each cell, falsify a sheet. What the working marks hold then is free; a refusal leaves them as they were.
 pub fn replay(
     sheet: &Sheet<'_>,
     valuation: &[i64],

@@ -1,11 +1,9 @@
-use Rattle.std.proofs.Common.{ap, ◌∙◌, w64, SFits, rules}
-use Rattle.std.proofs.lemmas.Int.{to_z-of_z}
-use Rattle.std.proofs.lemmas.Bool.{cond-true, le-leb}
+use Rattle.std.proofs.Common.{pos, rules}
+use Rattle.terms.specs.declared.row.Row.TheVariants.{Constant}
 use Rattle.sheets.specs.Valuations.{cell_in}
-use Rattle.judges.proofs.Numbers.{value_is}
+use Rattle.judges.proofs.Numbers.{folded_more}
 use Rattle.judges.proofs.number.number_of.Goals as goal
 
-pub returns : goal.returns
-returns c =
-    let fits : SFits w64 c.outcome.result.low = search rules in
-    to_z-of_z w64 _ fits ∙ ap (λ m. m.low) (c.outcome.ensures.value ∙ cond-true _ _ _ (le-leb _ _ c.requires.room)) ∙ value_is (cell_in c.args.valuation.now) c.args.rows.now c.requires.spans
+pub loop-i-preserved : goal.loop-i-preserved
+loop-i-preserved c =
+    folded_more (cell_in c.args.valuation.now) c.args.rows.now c.loop-i.i (Constant (pos 0)) c.loop-i.stack c.read-top.new.stack c.loop-i.top c.read-top.result c.requires.spans c.loop-i-test.true (search rules) (search rules) c.loop-i.invariant c.read-top.ensures

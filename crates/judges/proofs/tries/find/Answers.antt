@@ -1,7 +1,7 @@
 use Rattle.std.proofs.Common.{◌≡◌, ◌<◌, ◌≤◌, false, length, sym, ap, ◌∙◌, subst, arith, rules}
 use Rattle.sheets.specs.Places.{cells_in, says}
 use Rattle.sheets.specs.Valuations.{Within}
-use Rattle.sheets.proofs.Keeping.{keeps_from}
+use Rattle.sheets.proofs.Kept.{sheet_keeps}
 use Rattle.judges.specs.Keeping.{within_length}
 use Rattle.judges.specs.Tries.{ranges, is_refuted}
 use Rattle.judges.specs.Walks.{turning, Turned}
@@ -14,7 +14,7 @@ pub returns-then-is_refuted-clause-found : goal.returns-then-is_refuted-clause-f
 returns-then-is_refuted-clause-found c =
     let s = says c.args.sheet.now in
     let going = subst (λ n. Going s n c.loop-next.valuation) c.in-Some.is c.loop-next.invariant.going in
-    λ _. found s (keeps_from s c.args.sheet.now.kept) c.loop-next.valuation c.follow-ended.new.valuation c.in-Some.from c.follow-ended.result going c.follow-ended.ensures.followed c.follow-ended.ensures.within
+    λ _. found s (sheet_keeps c.args.sheet.now) c.loop-next.valuation c.follow-ended.new.valuation c.in-Some.from c.follow-ended.result going c.follow-ended.ensures.followed c.follow-ended.ensures.within
     (search rules) (search rules)
 
 pub turn-next-requires-clause-ended : goal.turn-next-requires-clause-ended
@@ -41,7 +41,7 @@ next_try c =
       | else-ended-cells-via-else-ended-cells t ↦ λ e. absurd (t.if-ended-cells.false (e ∙ sym (ap length c.cells.ensures)))
     ] in
     let turned : Turned (turning (ranges s.parts 0 s.cells) w c.follow-ended.result) w c.turn-next.result c.turn-next.new.valuation = subst (λ rs. Turned (turning rs w c.follow-ended.result) w c.turn-next.result c.turn-next.new.valuation) c.requires.ranges c.turn-next.ensures in
-    let all = proceeds s (keeps_from s c.args.sheet.now.kept) c.loop-next.valuation w c.in-Some.from c.follow-ended.result going c.follow-ended.ensures.followed c.follow-ended.ensures.within fails c.turn-next.result c.turn-next.new.valuation turned in
+    let all = proceeds s (sheet_keeps c.args.sheet.now) c.loop-next.valuation w c.in-Some.from c.follow-ended.result going c.follow-ended.ensures.followed c.follow-ended.ensures.within fails c.turn-next.result c.turn-next.new.valuation turned in
     (all.0, all.1, subst (λ n. to_go s c.turn-next.result c.turn-next.new.valuation < to_go s n c.loop-next.valuation) (sym c.in-Some.is) all.2)
 
 pub loop-next-smaller : goal.loop-next-smaller

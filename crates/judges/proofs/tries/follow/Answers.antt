@@ -3,7 +3,7 @@ use Rattle.std.proofs.lemmas.Int.{to_z-of_z}
 use Rattle.sheets.specs.Sheets.{set_by}
 use Rattle.sheets.specs.Places.{says}
 use Rattle.sheets.specs.Valuations.{Within}
-use Rattle.sheets.proofs.Keeping.{keeps_from}
+use Rattle.sheets.proofs.Kept.{sheet_keeps}
 use Rattle.judges.specs.Tries.{ranges}
 use Rattle.judges.specs.Walks.{left, begun}
 use Rattle.judges.specs.Ranging.{no_cell}
@@ -19,7 +19,7 @@ returns-in_default-clause-followed c =
     record {
       reached = omega arith;
       kept = c.loop-i.invariant.kept;
-      ended = λ _. ends_here s (keeps_from s c.args.sheet.now.kept) c.loop-i.valuation c.loop-i.invariant.within c.loop-i.i lt none;
+      ended = λ _. ends_here s (sheet_keeps c.args.sheet.now) c.loop-i.valuation c.loop-i.invariant.within c.loop-i.i lt none;
     }
 
 pub bounds-valuation-i : goal.bounds-valuation-i
@@ -37,6 +37,6 @@ loop-i-preserved c =
     let lt : i < length s.cells = search rules in
     let fits : SFits w64 n = search rules in
     let begins : begun s (set_by s.cells i) (get_or s.cells i no_cell) v ≡ Some n = sym c.begin.ensures ∙ c.in-Some.is in
-    let step = begins_with s (keeps_from s c.args.sheet.now.kept) v c.loop-i.invariant.within i lt n begins in
+    let step = begins_with s (sheet_keeps c.args.sheet.now) v c.loop-i.invariant.within i lt n begins in
     let all = subst (λ m. Within s.cells (set v i m) × (left s (ranges s.parts 0 s.cells) (i + 1) (set v i m) ≡ left s (ranges s.parts 0 s.cells) i v)) (sym (to_z-of_z w64 n fits)) step in
     record { within = all.0; kept = all.1 ∙ c.loop-i.invariant.kept }

@@ -4,7 +4,7 @@ use Rattle.reckoning.specs.Exactness.{Spans}
 use Rattle.sheets.specs.Sheets.{part, part_in}
 use Rattle.sheets.specs.Places.{rows_in, parts_in, says}
 use Rattle.sheets.specs.Valuations.{cell_in}
-use Rattle.sheets.proofs.Keeping.{keeps_from}
+use Rattle.sheets.proofs.Kept.{sheet_keeps}
 use Rattle.judges.proofs.Spanning.{part_spans}
 use Rattle.judges.proofs.Refuting.{goes_on, fails}
 use Rattle.judges.proofs.tries.is_refuted.Goals as goal
@@ -16,7 +16,7 @@ number_of-number-requires-clause-spans c =
     let lt : p < length (parts_in c.args.sheet.now) = search rules in
     let read : c.of.result.now ≡ part_in (rows_in c.args.sheet.now) (get_or (parts_in c.args.sheet.now) p (record { first = 0; rows = 0 })) = search rules in
     let is : c.of.result.now ≡ part s p = read ∙ sym (get_or-map (part_in (rows_in c.args.sheet.now)) (parts_in c.args.sheet.now) p (record { first = 0; rows = 0 }) [] lt) in
-    subst (Spans (cell_in c.args.valuation.now)) (sym is) (part_spans s (keeps_from s c.args.sheet.now.kept) c.args.valuation.now c.requires.within p (simp length-map lt))
+    subst (Spans (cell_in c.args.valuation.now)) (sym is) (part_spans s (sheet_keeps c.args.sheet.now) c.args.valuation.now c.requires.within p (simp length-map lt))
 
 pub returns-then-number-ne1 : goal.returns-then-number-ne1
 returns-then-number-ne1 c =
