@@ -3,6 +3,8 @@
 
 pub mod guess;
 #[cfg(test)]
+mod settlements;
+#[cfg(test)]
 mod slips;
 #[cfg(test)]
 mod units;

@@ -5,6 +5,7 @@ use jcode::mention::UnitRow;
 use jcode::reader::read;
 use jcode::statement::Statement;
 use jcode::variable::Variable;
+use std::alloc::{AllocError, Global};
 use std::process::Abort;
 use terms::row::Row;
 
@@ -60,4 +61,19 @@ pub(super) fn checked<'a>(rt: &impl Abort, bytes: &'a [u8], tables: &'a mut Tabl
         panic!(rt; "it broke a rule");
     }
     unit
+}
+
+// So many splits in a row, each with two ways on that join again.
+pub fn branching(heap: Global, splits: usize) -> Result<Vec<u8>, AllocError> {
+    let mut bytes = Vec::from_slice(heap, b"BEGIN Forks\nBREAK (//)\n")?;
+    for i in 0..splits {
+        let label = 1 + i % 1_000;
+        let join = 1_001 + i % 1_000;
+        let fork = format!(in heap;
+            "SPLIT {label}\nWHEN (true!) {label}\nBRANCH (//) {join}\nWHEN (true!) {label}\nBRANCH (//) {join}\nJOIN {join}\n"
+        )?;
+        bytes.extend_from_slice(fork.as_bytes())?;
+    }
+    bytes.extend_from_slice(b"REQUIRE (true!) (//)\nHANG\nEND\n")?;
+    Ok(bytes)
 }
