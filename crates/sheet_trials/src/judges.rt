@@ -80,8 +80,8 @@ impl Judge for Proposing {
 
 // A judge that is lent.
 #[derive(Drop)]
-struct Lent<'a, J> {
-    judge: &'a mut J,
+pub(super) struct Lent<'a, J> {
+    pub(super) judge: &'a mut J,
 }
 
 impl<'a, J: Judge> Judge for Lent<'a, J> {

@@ -1,7 +1,7 @@
 // Conditions that are settled on a desk, by judges that know nothing or propose.
 
 use super::buffers::Buffers;
-use super::judges::{Counting, Proposing, Seven};
+use super::judges::{Counting, Lent, Proposing, Seven};
 use super::units::{Held, LIMIT, PAST, RAISED};
 use super::written::{SHEETS, Written};
 use checking::unit::CheckedUnit;
@@ -38,10 +38,11 @@ fn settled<J: Judge>(
     (told, buffers)
 }
 
-// Whether a sheet stays open by a judge that knows nothing and is asked once, and needs just this room.
+// Whether a sheet stays open in so much room by a judge that knows nothing, and that is lent and asked once.
 fn stays_open(unit: &CheckedUnit<'_>, sheet: &Written, room: Room) -> bool {
     let mut judge = Counting { asked: 0 };
-    let (told, buffers) = settled(unit, sheet.number, &mut judge, room);
+    let mut lent = Lent { judge: &mut judge };
+    let (told, buffers) = settled(unit, sheet.number, &mut lent, room);
     let zeros = [0; 14];
     told == Ok(Outcome::Open)
         && judge.asked == 1
