@@ -35,7 +35,11 @@ impl Tables {
 }
 
 // The unit that the bytes hold, read and checked.
-pub(super) fn checked<'a>(rt: &impl Abort, bytes: &'a [u8], tables: &'a mut Tables) -> CheckedUnit<'a> {
+pub(super) fn checked<'a>(
+    rt: &impl Abort,
+    bytes: &'a [u8],
+    tables: &'a mut Tables,
+) -> CheckedUnit<'a> {
     let Ok(outline) = read(
         bytes,
         0,
