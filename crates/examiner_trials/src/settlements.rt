@@ -1,10 +1,11 @@
 // Settlements: what judges of all sorts come to.
 
 use super::guess::Guess;
+use super::slips::{handed_back, reads, taken};
 use super::units::{LIMIT, Tables, branching, checked};
 use checking::unit::CheckedUnit;
 use examiner::examination::Examination;
-use examiner::slip::Returned;
+use examiner::slip::{Returned, Slip};
 use examiner::verdict::Judgement;
 use jcode::refusal::Refusal;
 use judges::pass::Pass;
@@ -60,21 +61,10 @@ fn settled<J: Judge>(
         valuation: &mut valuation,
         working: &mut working,
     };
-    let slip = match examination.take() {
-        Ok(slip) => slip,
-        Err(_) => panic!(rt; "no slip was handed out"),
-    };
+    let slip = taken(rt, examination);
     match examination.settle(slip, judge, &mut desk) {
         Ok(outcome) => (outcome, valuation),
         Err(_returned) => panic!(rt; "the slip was refused"),
-    }
-}
-
-fn reads(rt: &impl Abort, unit: &CheckedUnit<'_>, examination: &Examination<'_>, wanted: &[u8]) {
-    let mut line = [0; 96];
-    match examination.verdict().report(unit, &mut line) {
-        Ok(written) => assert!(rt; &line[..written] == wanted),
-        Err(_) => panic!(rt; "the line was refused"),
     }
 }
 
@@ -93,7 +83,7 @@ fn the_worked_unit(rt: HostRuntime) {
     reads(
         &rt,
         &unit,
-        &examination,
+        examination.verdict(),
         b"Limit 2 passed 1 failed 0 open 0 verdict unfinished\n",
     );
     let (second, found) = settled(&rt, &mut examination, &mut judge);
@@ -102,7 +92,7 @@ fn the_worked_unit(rt: HostRuntime) {
     reads(
         &rt,
         &unit,
-        &examination,
+        examination.verdict(),
         b"Limit 2 passed 1 failed 1 open 0 verdict failed 1\n",
     );
 }
@@ -121,7 +111,7 @@ fn proposals_that_falsify_nothing(rt: HostRuntime) {
         reads(
             &rt,
             &unit,
-            &examination,
+            examination.verdict(),
             b"Limit 2 passed 0 failed 0 open 2 verdict open\n",
         );
     }
@@ -135,7 +125,7 @@ fn proposals_that_falsify_nothing(rt: HostRuntime) {
     reads(
         &rt,
         &unit,
-        &examination,
+        examination.verdict(),
         b"Limit 2 passed 0 failed 1 open 1 verdict failed 1\n",
     );
 }
@@ -188,20 +178,14 @@ fn settles(rt: &impl Abort, examination: &mut Examination<'_>, lengths: Lengths)
         valuation: &mut valuation[..lengths.valuation.min(4)],
         working: &mut working[..lengths.working.min(21)],
     };
-    let slip = match examination.take() {
-        Ok(slip) => slip,
-        Err(_) => panic!(rt; "no slip was handed out"),
-    };
+    let slip = taken(rt, examination);
     match examination.settle(slip, &mut Trier, &mut desk) {
         Ok(_) => true,
         Err(Returned { slip, fault }) => {
             assert_eq!(rt; fault.refusal, Refusal::Buffer);
             assert_eq!(rt; fault.place, 0);
             assert_eq!(rt; slip.number(), 1);
-            match examination.hand_back(slip) {
-                Ok(()) => {}
-                Err(_returned) => panic!(rt; "the slip was refused"),
-            }
+            handed_back(rt, examination, slip);
             assert!(rt; rows == [Row::Constant(9); 17]);
             assert!(rt; parts == [Part { first: 9, rows: 9 }; 5]);
             assert!(rt; cells == [NO_CELL; 4]);
@@ -238,50 +222,52 @@ fn buffers_one_too_short(rt: HostRuntime) {
     reads(
         &rt,
         &unit,
-        &examination,
+        examination.verdict(),
         b"Limit 2 passed 1 failed 0 open 0 verdict unfinished\n",
     );
     assert!(rt; settles(&rt, &mut examination, JUST));
     reads(
         &rt,
         &unit,
-        &examination,
+        examination.verdict(),
         b"Limit 2 passed 1 failed 1 open 0 verdict failed 1\n",
     );
 }
 
-// A twin's slip: while none is out, and then while all are settled.
+// The slip, refused as one that is not out, on a desk with no room.
+fn not_settled(rt: &impl Abort, examination: &mut Examination<'_>, slip: Slip) -> Slip {
+    let mut desk = Desk {
+        rows: &mut [],
+        parts: &mut [],
+        cells: &mut [],
+        valuation: &mut [],
+        working: &mut [],
+    };
+    match examination.settle(slip, &mut Trier, &mut desk) {
+        Ok(_) => panic!(rt; "it was settled"),
+        Err(Returned { slip, fault }) => {
+            assert_eq!(rt; fault.refusal, Refusal::Slip);
+            slip
+        }
+    }
+}
+
+// A twin's slip: while none is out, and while the one with the next number is.
 #[test]
 fn strange_slips_are_not_settled(rt: HostRuntime) {
     let mut tables = Tables::new();
     let unit = checked(&rt, LIMIT, &mut tables);
     let mut examination = Examination::new(unit, 5);
     let mut twin = Examination::new(unit, 5);
-    let mut strange = match twin.take() {
-        Ok(slip) => slip,
-        Err(_) => panic!(rt; "no slip was handed out"),
-    };
-    for _ in 0..2 {
-        let mut desk = Desk {
-            rows: &mut [],
-            parts: &mut [],
-            cells: &mut [],
-            valuation: &mut [],
-            working: &mut [],
-        };
-        strange = match examination.settle(strange, &mut Trier, &mut desk) {
-            Ok(_) => panic!(rt; "it was settled"),
-            Err(Returned { slip, fault }) => {
-                assert_eq!(rt; fault.refusal, Refusal::Slip);
-                slip
-            }
-        };
-        settled(&rt, &mut examination, &mut Trier);
-    }
-    match twin.hand_back(strange) {
-        Ok(()) => {}
-        Err(_returned) => panic!(rt; "the slip was refused"),
-    }
+    let strange = taken(&rt, &mut twin);
+    let strange = not_settled(&rt, &mut examination, strange);
+    let (first, _) = settled(&rt, &mut examination, &mut Trier);
+    assert_eq!(rt; first, Outcome::Passed);
+    let own = taken(&rt, &mut examination);
+    assert_eq!(rt; own.number(), 1);
+    let strange = not_settled(&rt, &mut examination, strange);
+    handed_back(&rt, &mut twin, strange);
+    handed_back(&rt, &mut examination, own);
 }
 
 // Sixteen splits in a row, each with two ways on.
@@ -302,7 +288,7 @@ fn as_many_paths_as_there_may_be(rt: HostRuntime) {
     reads(
         &rt,
         &unit,
-        &examination,
+        examination.verdict(),
         b"Forks 65536 passed 65536 failed 0 open 0 verdict cleared\n",
     );
 }

@@ -8,14 +8,14 @@ use examiner::verdict::{Judgement, Verdict};
 use jcode::refusal::Refusal;
 use std::process::Abort;
 
-fn taken(rt: &impl Abort, examination: &mut Examination<'_>) -> Slip {
+pub(super) fn taken(rt: &impl Abort, examination: &mut Examination<'_>) -> Slip {
     match examination.take() {
         Ok(slip) => slip,
         Err(_) => panic!(rt; "no slip was handed out"),
     }
 }
 
-fn handed_back(rt: &impl Abort, examination: &mut Examination<'_>, slip: Slip) {
+pub(super) fn handed_back(rt: &impl Abort, examination: &mut Examination<'_>, slip: Slip) {
     match examination.hand_back(slip) {
         Ok(()) => {}
         Err(_returned) => panic!(rt; "the slip was refused"),
@@ -85,7 +85,7 @@ fn slips_of_others(rt: HostRuntime) {
     handed_back(&rt, &mut twin, other);
 }
 
-fn reads(rt: &impl Abort, unit: &CheckedUnit<'_>, verdict: Verdict, wanted: &[u8]) {
+pub(super) fn reads(rt: &impl Abort, unit: &CheckedUnit<'_>, verdict: Verdict, wanted: &[u8]) {
     let mut line = [7; 96];
     match verdict.report(unit, &mut line) {
         Ok(written) => {
