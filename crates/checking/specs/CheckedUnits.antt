@@ -23,7 +23,13 @@ house = record {
   statements = Break [] ∷ Require (Applied False ∷ []) [] ∷ Hang ∷ [];
 }
 
+-- the bytes, the name and the tables that a place holds, which say its unit
+pub record Holds (bytes : List ℕ) (name : Span) (t : Tables) (u : CheckedUnit) : Type 0 where
+  pub its_bytes : u.tables.bytes.now ≡ bytes
+  pub its_name : u.tables.name ≡ name
+  pub its_tables : held u.tables ≡ t
+
 -- a check of tables fills the place if they break no rule; else it tells the first that they break, and the place stays as it was
 abbrev pub Fills : List ℕ → Span → Tables → CheckedUnit → Result (Unit {0}) CheckFault → CheckedUnit → Type 0
-Fills bytes name t before (Ok _) after = Unbroken bytes name t × (said after ≡ unit_of bytes name t)
+Fills bytes name t before (Ok _) after = Unbroken bytes name t × (said after ≡ unit_of bytes name t) × Holds bytes name t after
 Fills bytes name t before (Err f) after = FirstBroken bytes name t f × (after ≡ before)

@@ -1,5 +1,6 @@
 -- Two cells added for each variable of a list.
 use Rattle.std.proofs.Common.{◌≡◌, ℕ, ◌+◌, ◌*◌, List, [], ◌∷◌, map, length, get_or, None, refl, ◌∙◌, subst, arith, slice_set}
+use Rattle.std.proofs.lemmas.List.{length-map}
 use Rattle.jcode.specs.declared.variable.Domain.TheVariants.{Integer, Boolean}
 use Rattle.jcode.specs.Units.{JUnit}
 use Rattle.checking.specs.Types.{domains}
@@ -9,6 +10,7 @@ use Rattle.sheets.specs.Currents.{current_in}
 use Rattle.sheets.specs.PathSheets.{cell_of, cells_from}
 use Rattle.sheets.specs.Runs.{stored, types_at}
 use Rattle.sheets.specs.Writings.{Writes}
+use Rattle.sheets.proofs.Typing.{length-types_at}
 use Rattle.sheets.proofs.Joining.{written, not_written}
 
 -- some of the variables are done, and these are left: who writes the cells of these has written those of all
@@ -41,5 +43,4 @@ all_added u all before w after a = a.writes w (subst (λ now. Writes w [] [] now
 
 -- how many cells that makes
 pub two_each : (u : JUnit) (vs : List ℕ) → length (map (cell_of None) (types_at u vs)) ≡ 2 * length vs
-two_each u [] = refl
-two_each u (v ∷ vs) = let e = two_each u vs in omega arith
+two_each u vs = length-map (types_at u vs) (cell_of None) ∙ length-types_at u vs

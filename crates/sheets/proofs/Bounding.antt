@@ -18,7 +18,7 @@ use Rattle.checking.specs.Pieces.{is_list}
 use Rattle.sheets.specs.Matches.{terms_kept}
 use Rattle.sheets.specs.PathSheets.{Progress, cells_of, parts_of, moved, onward, over, rows_of, parts_along, cells_along}
 use Rattle.sheets.specs.Runs.{listed, read, sentence}
-use Rattle.sheets.proofs.Following.{length_cells}
+use Rattle.sheets.proofs.Equating.{length-cells_of}
 use Rattle.sheets.proofs.Sensing.{reads, sensible}
 use Rattle.sheets.proofs.Saying.{told_parts}
 use Rattle.sheets.proofs.Joining.{rows_append}
@@ -91,7 +91,7 @@ module _ (u : CheckedUnit) where
   here_cells : (w : Progress) (i : ℕ) → length (cells_of (said u) w (sentence (said u) i)) ≤ 16
   here_cells w i =
       let few = listed_bound (length (said u).variables) (sentence (said u) i) ((sensible u.tables.bytes.now u.tables.name (held u.tables) u.unbroken).terms i) in
-      let n = length_cells (said u) w (sentence (said u) i) in
+      let n = length-cells_of (said u) w (sentence (said u) i) in
       omega (arith, few, n)
 
   pub bounded : (w : Progress) (p : List ℕ) → Bounded (said u) w p

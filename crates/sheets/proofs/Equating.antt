@@ -86,7 +86,7 @@ pub set_right : (cs ds : List Cell) (k : ℕ) → length cs ≤ k → set_by (cs
 set_right cs ds k h =
     ap (λ l. get_or l k None) (map-append (λ c. c.set_by) cs ds) ∙ get_or-append_right (map (λ c. c.set_by) cs) (map (λ c. c.set_by) ds) (length cs) k None (length-map cs (λ c. c.set_by)) h
 
-length-cells_of : {T : Type 0} (u : JUnit) (w : Progress) (st : Sentence T) → length (cells_of u w st) ≡ 2 * length (listed st)
+pub length-cells_of : {T : Type 0} (u : JUnit) (w : Progress) (st : Sentence T) → length (cells_of u w st) ≡ 2 * length (listed st)
 length-cells_of u w st = sym (length-map (cells_of u w st) unset) ∙ ap length (unset_cells_of u w st) ∙ length-map (types_at u (listed st)) (cell_of None) ∙ length-types_at u (listed st)
 
 module _ (u : JUnit) (sensible : Sensible u) (held : List (Option Domain)) where

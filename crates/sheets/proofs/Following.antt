@@ -1,6 +1,5 @@
 -- A path's statements visited one after another.
-use Rattle.std.proofs.Common.{◌≡◌, ℕ, ◌+◌, ◌*◌, ◌<◌, List, [], ◌∷◌, ◌++◌, length, Some, None, Option, IfSome, sym, refl, ap, ◌∙◌, subst, arith}
-use Rattle.std.proofs.lemmas.List.{length-map}
+use Rattle.std.proofs.Common.{◌≡◌, ℕ, ◌+◌, ◌<◌, List, [], ◌∷◌, ◌++◌, length, Some, None, Option, IfSome, sym, refl, ap, ◌∙◌, subst, arith}
 use Rattle.flow.specs.declared.step.Step.{Step}
 use Rattle.flow.specs.declared.turn.Turn.{Turn}
 use Rattle.flow.specs.Turns.{told, tail, Tells, Follows}
@@ -8,11 +7,10 @@ use Rattle.jcode.specs.Sentences.{Sentence}
 use Rattle.jcode.specs.Units.{JUnit}
 use Rattle.checking.specs.Breaks.{steps_of}
 use Rattle.sheets.specs.declared.writer.Writer.{Writer}
-use Rattle.sheets.specs.PathSheets.{Progress, cells_of, parts_of, moved, onward, parts_along, cells_along}
-use Rattle.sheets.specs.Runs.{listed, sentence}
+use Rattle.sheets.specs.PathSheets.{cells_of, parts_of, moved, onward, parts_along, cells_along}
+use Rattle.sheets.specs.Runs.{sentence}
 use Rattle.sheets.specs.Writings.{Writes, Fills, CountsAll, progress}
-use Rattle.sheets.proofs.Adding.{two_each}
-use Rattle.sheets.proofs.Typing.{unset, unset_cells_of}
+use Rattle.sheets.proofs.Equating.{length-cells_of}
 use Rattle.sheets.proofs.Joining.{filled, fills, not_filled, counts_first, counts_rest, length_laid}
 
 -- the places from a turn on
@@ -29,12 +27,9 @@ pub still : (s : List Step) (t : Turn) (next : Option Turn) → Follows s t next
 still s t None ends = tt
 still s t (Some n) on = on.1
 
-pub length_cells : {T : Type 0} (u : JUnit) (w : Progress) (st : Sentence T) → length (cells_of u w st) ≡ 2 * length (listed st)
-length_cells u w st = sym (length-map (cells_of u w st) unset) ∙ ap length (unset_cells_of u w st) ∙ two_each u (listed st)
-
 moves_on : (u : JUnit) (w x : Writer) (st : Sentence (List ℕ)) → Writes w (parts_of (progress w) st) (cells_of u (progress w) st) (moved (progress w) st) x → progress x ≡ onward (progress w) st
 moves_on u w x st p =
-    let cells = p.cells.count ∙ ap (λ n. w.written.cells + n) (length_cells u (progress w) st) in
+    let cells = p.cells.count ∙ ap (λ n. w.written.cells + n) (length-cells_of u (progress w) st) in
     let parts = p.parts.count ∙ ap (λ n. w.written.parts + n) (length_laid w.written.rows (parts_of (progress w) st)) in
     λ i. record { cells = cells i; parts = parts i; current = p.current i }
 

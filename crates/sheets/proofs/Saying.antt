@@ -1,5 +1,5 @@
 -- What a statement adds, whether it is told by the tables or by the unit that they hold.
-use Rattle.std.proofs.Common.{◌≡◌, ℕ, ◌*◌, ◌+◌, true, ltb, nat_le, nat_lt, List, [], ◌∷◌, map, length, get_or, sym, refl, ap, ◌∙◌, subst, arith}
+use Rattle.std.proofs.Common.{◌≡◌, ℕ, ◌*◌, ◌+◌, true, ltb, nat_le, nat_lt, List, [], ◌∷◌, length, get_or, sym, refl, ap, ◌∙◌, subst, arith}
 use Rattle.std.proofs.lemmas.Bool.{and_parts, and_from, ltb-true, lt-ltb}
 use Rattle.std.specs.List.{list_all}
 use Rattle.jcode.specs.declared.statement.Statement.{Statement}
@@ -7,7 +7,7 @@ use Rattle.jcode.specs.declared.statement.Statement.TheVariants as stands
 use Rattle.jcode.specs.declared.span.Span.{Span}
 use Rattle.jcode.specs.Bytes.{slice}
 use Rattle.jcode.specs.Sentences.{Sentence, Hang, Break, Require, Proclaim, New, Assign, Split, When, Branch, Join}
-use Rattle.jcode.specs.Units.{JUnit, retold, sentence_in}
+use Rattle.jcode.specs.Units.{retold, sentence_in}
 use Rattle.checking.specs.declared.unit.CheckedUnit.{CheckedUnit}
 use Rattle.sheets.specs.declared.writer.Writer.{Writer}
 use Rattle.checking.specs.CheckedUnits.{said}
