@@ -1,5 +1,5 @@
 -- Rows and statements that are laid out in the tables.
-use Rattle.std.proofs.Common.{◌≡◌, ℕ, ◌+◌, ◌-◌, List, ◌++◌, length, ◌≤◌, IsErrAnd, Ok, Err, Result, sym, ap, ◌∙◌, arith, length-append}
+use Rattle.std.proofs.Common.{◌≡◌, ℕ, ◌+◌, ◌-◌, List, ◌++◌, length, ◌≤◌, IsErrAnd, Some, Ok, Err, Result, sym, ap, ◌∙◌, arith, length-append}
 use Rattle.jcode.specs.declared.cursor.Cursor.{Cursor}
 use Rattle.jcode.specs.declared.refusal.ReadFault.{ReadFault}
 use Rattle.jcode.specs.declared.scope.Scope.{Scope as CodeScope}
@@ -69,8 +69,8 @@ pub reread : {sc sc' : Scope} {room room' used used' : ℕ} {c d : Cursor} {x : 
 reread {c = c} s r u h = record { value = h.value ∙ (λ k. read_expression (s k) (r k) (u k) c.bytes.now c.at); same = h.same }
 
 -- the scope of NEW's expression
-pub within_listing : (sc : CodeScope) (l : Listing) (vs : List ℕ) → l ≡ listing_of vs → scope_of (record { bytes = sc.bytes; variables = sc.variables; listing = l }) ≡ listing (scope_of sc) vs
-within_listing sc l vs e = ap (λ x. record { names = (scope_of sc).names; listed = x }) (ap listed_in e ∙ listed_is vs)
+pub within_listing : (sc : CodeScope) (l : Listing) (vs : List ℕ) → l ≡ listing_of vs → scope_of (record { bytes = sc.bytes; variables = sc.variables; listing = Some l }) ≡ listing (scope_of sc) vs
+within_listing sc l vs e = ap (λ x. record { names = (scope_of sc).names; listed = Some x }) (ap listed_in e ∙ listed_is vs)
 
 -- what ASSIGN's two expressions leave
 module _ (t t₁ : Table UnitRow) (e : List UnitRow) (first : held t₁ ≡ held_with t e) where

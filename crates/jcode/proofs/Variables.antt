@@ -14,7 +14,7 @@ use Rattle.jcode.specs.Bytes.{name_byte, slice}
 use Rattle.jcode.specs.Language.{Name, between, Spelt}
 use Rattle.jcode.specs.Spelling.{Sizes, Variable, Listed}
 use Rattle.jcode.specs.Pieces.{got, refuse, read_name}
-use Rattle.jcode.specs.Scopes.{Scope, index_of, member}
+use Rattle.jcode.specs.Scopes.{Scope, index_of, renews}
 use Rattle.jcode.specs.ReadTerms.{found as found_at, known, read_variable, read_listed}
 use Rattle.jcode.proofs.Outcomes.{refused_got, got_what, got_next, then_got, when_got}
 use Rattle.jcode.proofs.Places.{spelt_as}
@@ -68,8 +68,8 @@ module _ (tables : Sizes) (bytes : List ℕ) (sc : Scope) where
 
     pub listed_agrees : Agrees tables bytes (read_listed sc) (λ v. v) (plain (Listed sc)) (Stops name_byte bytes)
     listed_agrees =
-        spelling (λ v. member v sc.listed ≡ true)
-        (kept_agrees (λ v. member v sc.listed ≡ true) (λ i v j. cond (member v sc.listed) (got v j) (refuse Unknown i))
+        spelling (λ v. renews sc v ≡ true)
+        (kept_agrees (λ v. renews sc v ≡ true) (λ i v j. cond (renews sc v) (got v j) (refuse Unknown i))
         (λ i v j l e h. cond-true _ _ _ h)
-        (λ i v j l e c k h. let u = when_got (member v sc.listed) (got v j) _ h in (u.1, u.0))
+        (λ i v j l e c k h. let u = when_got (renews sc v) (got v j) _ h in (u.1, u.0))
         variable_agrees)

@@ -1,5 +1,5 @@
 -- Units: reading and spelling agree.
-use Rattle.std.proofs.Common.{◌≡◌, ℕ, ◌<◌, min, cond, List, [], ◌∷◌, map, length, get_or, sym, refl, ap, ◌∙◌, subst, ⊎_elim}
+use Rattle.std.proofs.Common.{◌≡◌, ℕ, ◌<◌, min, cond, List, [], ◌∷◌, map, length, get_or, None, sym, refl, ap, ◌∙◌, subst, ⊎_elim}
 use Rattle.std.specs.Prelude.{codes}
 use Rattle.std.specs.List.{IsDistinct}
 use Rattle.std.proofs.lemmas.Bool.{cases_lt, both_ways}
@@ -48,7 +48,7 @@ module _ (t : Tables) (bytes : List ℕ) where
   names_in (v ∷ vs) = λ k. name_in bytes v ∷ names_in vs k
 
   pub scope_is : (vs : List Variable) → scope_in bytes vs ≡ scope_with (map (declared_in bytes) vs)
-  scope_is vs = λ k. record { names = names_in vs k; listed = [] }
+  scope_is vs = λ k. record { names = names_in vs k; listed = None }
 
   body_agrees : (vs : List Variable) → IsDistinct same_word (names_of (map (declared_in bytes) vs)) → Agrees sizes bytes (read_body t vs) (map (retold (slice bytes))) (statements (scope_with (map (declared_in bytes) vs))) Sep
   body_agrees vs once =

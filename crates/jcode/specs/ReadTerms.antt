@@ -19,7 +19,7 @@ use Rattle.jcode.specs.Bytes.{slice, stands}
 use Rattle.jcode.specs.Pieces.{Answer, got, refused, Reader, refuse, and_then, ◌▷◌, ◌giving◌, read_mark, read_gap, read_may_gap, read_name, read_number}
 pub use Rattle.jcode.specs.Rows.{UnitRow}
 use Rattle.jcode.specs.Rows.{operands_after}
-use Rattle.jcode.specs.Scopes.{Scope, index_of, member}
+use Rattle.jcode.specs.Scopes.{Scope, index_of, renews}
 use Rattle.jcode.specs.Tables.{put}
 
 -- a word with `!` after it: what it opens
@@ -46,7 +46,7 @@ read_variable sc bytes at = and_then (read_name bytes at) (known sc bytes)
 
 -- a variable that NEW lists
 abbrev pub read_listed : Scope → Reader ℕ
-read_listed sc bytes at = and_then (read_variable sc bytes at) (λ v j. cond (member v sc.listed) (got v j) (refuse Name at))
+read_listed sc bytes at = and_then (read_variable sc bytes at) (λ v j. cond (renews sc v) (got v j) (refuse Name at))
 
 abbrev pub mention : Aspect → Stage → ℕ → UnitRow
 mention a s v = Mentioned (record { variable = v; aspect = a; stage = s })

@@ -162,7 +162,7 @@ unfoldable pub read_heading : Reader Span
 read_heading = read_keyword (codes "BEGIN") ▷ (read_gap ▷ (read_name ◁ read_end))
 
 abbrev pub scope_in : List ℕ → List Variable → Scope
-scope_in bytes vs = record { names = map (name_in bytes) vs; listed = [] }
+scope_in bytes vs = record { names = map (name_in bytes) vs; listed = None }
 
 -- the statements of a unit with these variables
 abbrev pub read_body : Tables → List Variable → Reader (List (Sentence Span))

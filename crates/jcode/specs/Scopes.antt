@@ -1,6 +1,7 @@
--- What a term can mention: the names that are declared, and the variables that NEW lists.
-use Rattle.std.specs.Prelude.{ℕ, ◌+◌, Bool, cond, List, map, take, Option, nat_eq, nat_lt, position, slice_set}
+-- What a term can mention: the names that are declared, and in NEW the variables that it lists.
+use Rattle.std.specs.Prelude.{ℕ, ◌+◌, Bool, false, cond, List, map, take, Option, Some, nat_eq, nat_lt, position, slice_set}
 use Rattle.std.specs.List.{list_any}
+use Rattle.std.specs.Option.{option_map, option_map_or}
 use Rattle.terms.specs.Words.{same_word}
 use Rattle.jcode.specs.declared.scope.Scope.{Scope as CodeScope}
 use Rattle.jcode.specs.declared.statement.Listing.{Listing}
@@ -9,14 +10,19 @@ use Rattle.jcode.specs.Bytes.{slice}
 
 pub record Scope : Type 0 where
   pub names : List (List ℕ)
-  pub listed : List ℕ
+  -- none outside of NEW
+  pub listed : Option (List ℕ)
 
--- where NEW lists these
+-- in a NEW that lists these
 abbrev pub listing : Scope → List ℕ → Scope
-listing sc vs = record { names = sc.names; listed = vs }
+listing sc vs = record { names = sc.names; listed = Some vs }
 
 abbrev pub member : ℕ → List ℕ → Bool
 member v xs = list_any (λ x. nat_eq x v) xs
+
+-- whether a variable is one that NEW lists; outside of NEW none is
+abbrev pub renews : Scope → ℕ → Bool
+renews sc v = option_map_or (member v) sc.listed false
 
 -- the number of the first name that is this one
 abbrev pub index_of : List ℕ → List (List ℕ) → Option ℕ
@@ -34,4 +40,4 @@ abbrev pub pushed : Listing → ℕ → Listing
 pushed l v = cond (nat_lt l.count 8) (record { variables = slice_set l.variables l.count v; count = l.count + 1 }) l
 
 abbrev pub scope_of : CodeScope → Scope
-scope_of s = record { names = map (name_in s.bytes.now) s.variables.now; listed = listed_in s.listing }
+scope_of s = record { names = map (name_in s.bytes.now) s.variables.now; listed = option_map listed_in s.listing }

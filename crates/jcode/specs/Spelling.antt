@@ -1,5 +1,5 @@
 -- What spells a unit, production by production.
-use Rattle.std.specs.Prelude.{◌≡◌, ℕ, zero, suc, ◌≤◌, ◌≤ℤ◌, Bool, true, false, List, [], ◌∷◌, ◌++◌, length, map, Some, codes, nat_eq, slice_get}
+use Rattle.std.specs.Prelude.{◌≡◌, ℕ, zero, suc, ◌≤◌, ◌≤ℤ◌, Bool, true, false, List, [], ◌∷◌, ◌++◌, length, map, Some, None, codes, nat_eq, slice_get}
 use Rattle.std.specs.List.{IsDistinct}
 use Rattle.terms.specs.declared.row.Row.TheVariants.{Constant, Mention as Mentioned, Operator as Applied}
 use Rattle.terms.specs.Operators.{word_of}
@@ -11,7 +11,7 @@ use Rattle.jcode.specs.declared.mention.Stage.TheVariants.{Current, New as Renew
 use Rattle.jcode.specs.declared.variable.Domain.{Domain}
 use Rattle.jcode.specs.declared.variable.Domain.TheVariants.{Integer, Boolean, Subrange}
 use Rattle.jcode.specs.Language.{Language, ◌⊙◌, Many, Just, Gap, MayGap, End, IsName, Name, Number, Label, Text}
-use Rattle.jcode.specs.Scopes.{Scope, member, listing}
+use Rattle.jcode.specs.Scopes.{Scope, renews, listing}
 use Rattle.jcode.specs.Sentences.{Sentence, Hang, Break, Require, Proclaim, New, Assign, Split, When, Branch, Join, rows_all}
 use Rattle.jcode.specs.Units.{Declared, JUnit}
 use Rattle.jcode.specs.Rows.{UnitRow, operands_after}
@@ -21,7 +21,7 @@ Variable sc v w = (slice_get sc.names v ≡ Some w) × IsName w
 
 -- a variable that NEW lists
 abbrev pub Listed : Scope → ℕ → Language
-Listed sc v w = (member v sc.listed ≡ true) × Variable sc v w
+Listed sc v w = (renews sc v ≡ true) × Variable sc v w
 
 abbrev pub Mention : Scope → Aspect → Stage → ℕ → Language
 Mention sc Value Current v = Variable sc v
@@ -111,7 +111,7 @@ abbrev pub names_of : List Declared → List (List ℕ)
 names_of ds = map (λ d. d.name) ds
 
 abbrev pub scope_with : List Declared → Scope
-scope_with ds = record { names = names_of ds; listed = [] }
+scope_with ds = record { names = names_of ds; listed = None }
 
 abbrev pub Heading : List ℕ → Language
 Heading name = Just (codes "BEGIN") ⊙ Gap ⊙ Name name ⊙ End

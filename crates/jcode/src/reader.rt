@@ -10,7 +10,7 @@ use super::mention::UnitRow;
 use super::refusal::ReadFault;
 use super::scope::Scope;
 use super::span::Span;
-use super::statement::{Listing, Statement};
+use super::statement::Statement;
 use super::table::Table;
 use super::variable::Variable;
 use terms::row::Row;
@@ -59,7 +59,7 @@ fn attempt(
     let scope = Scope {
         bytes,
         variables: variables.filled(),
-        listing: Listing::EMPTY,
+        listing: None,
     };
     cursor.statements(scope, statements, rows)?;
     Ok(Outline {

@@ -2,7 +2,7 @@
 
 ghost use Rattle.std.specs.Prelude.{◌≡◌, position};
 ghost use Rattle.terms.specs.Words.{same_word};
-ghost use Rattle.jcode.specs.Scopes.{name_in, member};
+ghost use Rattle.jcode.specs.Scopes.{name_in, member, scope_of, renews};
 
 use super::statement::Listing;
 use super::variable::Variable;
@@ -11,7 +11,8 @@ use super::variable::Variable;
 pub struct Scope<'a> {
     pub bytes: &'a [u8],
     pub variables: &'a [Variable],
-    pub listing: Listing,
+    // None outside of NEW.
+    pub listing: Option<Listing>,
 }
 
 impl Scope<'_> {
@@ -22,6 +23,14 @@ impl Scope<'_> {
         self.variables
             .iter()
             .position(|variable| variable.is_named(self.bytes, name))
+    }
+
+    // Whether NEW lists this variable.
+    pub(super) fn renews(self, variable: usize) -> bool
+        ensures { result ≡ renews (scope_of self.entry) variable }
+    {
+        self.listing
+            .is_some_and(|listing| listing.listed().contains(&variable))
     }
 }
 

@@ -226,7 +226,11 @@ impl Cursor<'_> {
         self.gap()?;
         let listing = self.listing(scope)?;
         self.may_gap();
-        let condition = self.expression(Scope { listing, ..scope }, rows)?;
+        let within = Scope {
+            listing: Some(listing),
+            ..scope
+        };
+        let condition = self.expression(within, rows)?;
         let text = self.text_end()?;
         Ok(Statement::New {
             listing,

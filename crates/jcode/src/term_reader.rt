@@ -83,7 +83,7 @@ impl Cursor<'_> {
     {
         let place = self.at;
         let variable = self.variable(scope)?;
-        if !scope.listing.listed().contains(&variable) {
+        if !scope.renews(variable) {
             return Err(Refusal::Name.at(place));
         }
         Ok(variable)
