@@ -1,51 +1,80 @@
--- Readings that blame no table.
-use Rattle.std.proofs.Common.{◌≡◌, ℕ, zero, suc, ◌+◌, Bool, true, false, cond, List, ℤ, Some, None, Option, sym, refl, ap, arith}
+-- Readings that blame no table, and give only refusals of reading.
+use Rattle.std.proofs.Common.{◌≡◌, ℕ, zero, suc, ◌+◌, Bool, true, false, cond, List, ℤ, Some, None, Option, sym, refl, ap, ◌∙◌, arith}
 use Rattle.jcode.specs.declared.refusal.Refusal.{Refusal}
 use Rattle.jcode.specs.declared.refusal.Refusal.TheVariants.{Missing, Number, Limit, Table, Name}
 use Rattle.jcode.specs.declared.refusal.ReadFault.{ReadFault}
-use Rattle.jcode.specs.Refusals.{number_of}
+use Rattle.jcode.specs.declared.refusal.Layer.TheVariants.{Reading}
+use Rattle.jcode.specs.Refusals.{number_of, layer_of}
 use Rattle.jcode.specs.declared.declaration_reader.DomainWord.{DomainWord}
 use Rattle.jcode.specs.declared.declaration_reader.DomainWord.TheVariants as word
 use Rattle.jcode.specs.declared.statement_reader.Verb.TheVariants as verb
 use Rattle.jcode.specs.declared.term_reader.Head.{Head}
 use Rattle.jcode.specs.declared.term_reader.Head.TheVariants.{Constant as ConstantHead, Defined, New as NewHead, Operator as OperatorHead}
+use Rattle.jcode.specs.declared.span.Span.{Span}
 use Rattle.jcode.specs.declared.variable.Variable.{Variable}
 use Rattle.jcode.specs.Pieces.{Answer, got, refused, Reader, refuse, and_then, ◌▷◌, ◌giving◌, repeated, passed, numbered, read_mark, read_gap, read_may_gap, read_word, read_name, read_keyword, read_decimal, read_number, read_inner, read_text}
 use Rattle.jcode.specs.Scopes.{Scope}
-use Rattle.jcode.specs.ReadTerms.{found, read_variable, read_listed, read_defined, by_head_found, read_row, read_close, read_lead}
+use Rattle.jcode.specs.ReadTerms.{found, known, read_variable, read_renewed, read_defined, by_head_found, read_row, read_close, read_lead}
 use Rattle.jcode.specs.ReadStatements.{goes_on, read_single, read_again, read_repeated, read_target, read_unseen, read_more, read_names, read_listing, read_text_end, read_label_end, read_gap_label, by_verb}
 use Rattle.jcode.specs.ReadUnits.{read_high, read_bounds, by_domain, read_domain, read_colon, read_class, read_closing, read_declared, read_fresh, read_declaration, read_finish, read_heading}
 use Rattle.jcode.proofs.Outcomes.{refused_got}
 
+-- what is refused is refused by reading
+pub record Layered {A : Type 0} (o : Answer A) : Type 0 where
+  pub layer : (f : ReadFault) → o ≡ refused f → layer_of f.refusal ≡ Reading
+
 -- the tables are not blamed
 pub record Fair {A : Type 0} (o : Answer A) : Type 0 where
   pub fair : (place : ℕ) → o ≡ refuse Table place → ⊥
+  pub layered : Layered o
+
+pub got_layered : {A : Type 0} (a : A) (j : ℕ) → Layered (got a j)
+got_layered a j = record { layer = λ f e. absurd (refused_got (sym e)) }
+
+pub reading : {A : Type 0} (r : Refusal) (p : ℕ) → layer_of r ≡ Reading → Layered {A = A} (refuse r p)
+reading r p h = record {
+  layer = λ f e.
+      let same : record { refusal = r; place = p } ≡ f = cc in
+      ap (λ f. layer_of f.refusal) (sym same) ∙ h;
+}
+
+pub then_layered : {A B : Type 0} (o : Answer A) (f : A → ℕ → Answer B) → Layered o → ((a : A) (j : ℕ) → Layered (f a j)) → Layered (and_then o f)
+then_layered (got a j) f h k = k a j
+then_layered (refused y) f h k = record { layer = λ g e. h.layer g (let same : y ≡ g = cc in ap refused same) }
+
+pub cond_layered : {A : Type 0} (t : Bool) (x y : Answer A) → Layered x → Layered y → Layered (cond t x y)
+cond_layered true x y h k = h
+cond_layered false x y h k = k
 
 pub got_fair : {A : Type 0} (a : A) (j : ℕ) → Fair (got a j)
-got_fair a j = record { fair = λ place e. refused_got (sym e) }
+got_fair a j = record { fair = λ place e. refused_got (sym e); layered = got_layered a j }
 
-other : {A : Type 0} (r : Refusal) (p : ℕ) → (number_of r ≡ 4 → ⊥) → Fair {A = A} (refuse r p)
-other r p apart = record {
+other : {A : Type 0} (r : Refusal) (p : ℕ) → (number_of r ≡ 4 → ⊥) → layer_of r ≡ Reading → Fair {A = A} (refuse r p)
+other r p apart h = record {
   fair = λ place e.
       let same : ◌≡◌ {A = ReadFault} (record { refusal = r; place = p }) (record { refusal = Table; place = place }) = cc in
       absurd (apart (ap (λ f. number_of f.refusal) same));
+  layered = reading r p h;
 }
 
 pub missing : {A : Type 0} (p : ℕ) → Fair {A = A} (refuse Missing p)
-missing p = other Missing p (λ e. omega arith)
+missing p = other Missing p (λ e. omega arith) refl
 
 number : {A : Type 0} (p : ℕ) → Fair {A = A} (refuse Number p)
-number p = other Number p (λ e. omega arith)
+number p = other Number p (λ e. omega arith) refl
 
 pub limit : {A : Type 0} (p : ℕ) → Fair {A = A} (refuse Limit p)
-limit p = other Limit p (λ e. omega arith)
+limit p = other Limit p (λ e. omega arith) refl
 
 name : {A : Type 0} (p : ℕ) → Fair {A = A} (refuse Name p)
-name p = other Name p (λ e. omega arith)
+name p = other Name p (λ e. omega arith) refl
 
 pub then_fair : {A B : Type 0} (o : Answer A) (f : A → ℕ → Answer B) → Fair o → ((a : A) (j : ℕ) → Fair (f a j)) → Fair (and_then o f)
 then_fair (got a j) f h k = k a j
-then_fair (refused y) f h k = record { fair = λ place e. h.fair place (let same : y ≡ record { refusal = Table; place = place } = cc in ap refused same) }
+then_fair (refused y) f h k = record {
+  fair = λ place e. h.fair place (let same : y ≡ record { refusal = Table; place = place } = cc in ap refused same);
+  layered = then_layered (refused y) f h.layered (λ a j. (k a j).layered);
+}
 
 cond_fair : {A : Type 0} (t : Bool) (x y : Answer A) → (t ≡ true → Fair x) → (t ≡ false → Fair y) → Fair (cond t x y)
 cond_fair true x y h k = h refl
@@ -112,24 +141,27 @@ module _ (bytes : List ℕ) where
   finds at None j = name at
 
   module _ (sc : Scope) where
-    variable : Always (read_variable sc)
-    variable i = search (then_fair, name_fair, finds)
+    knows : (s : Span) (j : ℕ) → Fair (known sc bytes s j)
+    knows s j = search (then_fair, cond_fair, limit, got_fair, finds)
 
-    listed : Always (read_listed sc)
-    listed i = search (then_fair, variable, cond_fair, got_fair, name)
+    variable : Always (read_variable sc)
+    variable i = search (then_fair, word_fair, knows)
+
+    renewed : (place : ℕ) → Always (read_renewed sc place)
+    renewed place i = search (cond_fair, then_fair, white_fair, name_fair, finds, name)
 
     defined : Always (read_defined sc)
-    defined i = search (then_fair, name_fair, cond_fair, white_fair, listed, got_fair, missing, finds) depth 8
+    defined i = search (cond_fair, then_fair, renewed, variable, got_fair)
 
     heads : (at : ℕ) (o : Option Head) → Always (by_head_found sc at o)
     heads at (Some ConstantHead) i = search (then_fair, white_fair, a_number, got_fair)
     heads at (Some Defined) i = search (then_fair, white_fair, defined)
-    heads at (Some NewHead) i = search (then_fair, white_fair, listed, got_fair)
+    heads at (Some NewHead) i = search (then_fair, renewed, got_fair)
     heads at (Some (OperatorHead o)) i = search (got_fair)
     heads at None i = name at
 
     pub row_fair : Always (read_row sc)
-    row_fair i = search (then_fair, name_fair, cond_fair, heads, finds, got_fair)
+    row_fair i = search (then_fair, word_fair, cond_fair, heads, knows, got_fair)
 
     -- a term's beginning, past its bracket
     pub inside_fair : Always (read_may_gap ▷ read_row sc)

@@ -53,9 +53,13 @@ repeated more step done (suc left) seen bytes at =
     (and_then (step false seen bytes at) (λ a j. repeated more step done left (seen ++ a ∷ []) bytes j))
     (done seen bytes at)
 
+-- whether these bytes stand at a place
+abbrev pub starts_with : List ℕ → List ℕ → ℕ → Bool
+starts_with w bytes at = same_word (take (length w) (drop at bytes)) w
+
 -- bytes that are one piece, as `(` and `(/`
 abbrev pub read_mark : List ℕ → Reader (Unit {0})
-read_mark w bytes at = cond (same_word (take (length w) (drop at bytes)) w) (got tt (at + length w)) (refuse Missing at)
+read_mark w bytes at = cond (starts_with w bytes at) (got tt (at + length w)) (refuse Missing at)
 
 -- how many separators stand at a place, if the last of them is this one
 abbrev pub ends_in : ℕ → List ℕ → Bool

@@ -1,5 +1,6 @@
 -- Terms: how they are read.
 use Rattle.std.specs.Prelude.{◌≡◌, ℕ, zero, suc, ◌+◌, Bool, true, false, cond, List, [], ◌∷◌, ◌++◌, length, Some, None, Ok, Err, codes, Option, Result, ◌==◌, nat_le}
+use Rattle.std.specs.Option.{is_some}
 use Rattle.terms.specs.declared.operator.Operator.{Operator}
 use Rattle.terms.specs.declared.row.Row.TheVariants.{Constant, Mention as Mentioned, Operator as Applied}
 use Rattle.terms.specs.Words.{same_word}
@@ -10,16 +11,16 @@ use Rattle.jcode.specs.declared.mention.Aspect.TheVariants.{Value, Shadow}
 use Rattle.jcode.specs.declared.mention.Stage.{Stage}
 use Rattle.jcode.specs.declared.mention.Stage.TheVariants.{Current, New}
 use Rattle.jcode.specs.declared.refusal.ReadFault.{ReadFault}
-use Rattle.jcode.specs.declared.refusal.Refusal.TheVariants.{Missing, Limit, Table, Name}
+use Rattle.jcode.specs.declared.refusal.Refusal.TheVariants.{Limit, Table, Name}
 use Rattle.jcode.specs.declared.span.Span.{Span}
 use Rattle.jcode.specs.declared.table.Table.{Table as CodeTable}
 use Rattle.jcode.specs.declared.term_reader.Head.{Head}
 use Rattle.jcode.specs.declared.term_reader.Head.TheVariants.{Constant as ConstantHead, Defined, New as NewHead, Operator as OperatorHead}
 use Rattle.jcode.specs.Bytes.{slice, stands}
-use Rattle.jcode.specs.Pieces.{Answer, got, refused, Reader, refuse, and_then, ◌▷◌, ◌giving◌, read_mark, read_gap, read_may_gap, read_name, read_number}
+use Rattle.jcode.specs.Pieces.{Answer, got, refused, Reader, refuse, and_then, ◌▷◌, ◌giving◌, starts_with, short, read_mark, read_gap, read_may_gap, read_word, read_name, read_number}
 pub use Rattle.jcode.specs.Rows.{UnitRow}
 use Rattle.jcode.specs.Rows.{operands_after}
-use Rattle.jcode.specs.Scopes.{Scope, index_of, renews}
+use Rattle.jcode.specs.Scopes.{Scope, index_of, renewed}
 use Rattle.jcode.specs.Tables.{put}
 
 -- a word with `!` after it: what it opens
@@ -37,45 +38,46 @@ abbrev pub found : ℕ → Option ℕ → ℕ → Answer ℕ
 found at (Some v) j = got v j
 found at None j = refuse Name at
 
--- the variable that a name declares
+-- the variable that a word names
 abbrev pub known : Scope → List ℕ → Span → ℕ → Answer ℕ
-known sc bytes s j = found s.start (index_of (slice bytes s) sc.names) j
+known sc bytes w j = and_then (short w j) (λ s k. found s.start (index_of (slice bytes s) sc.names) k)
 
 abbrev pub read_variable : Scope → Reader ℕ
-read_variable sc bytes at = and_then (read_name bytes at) (known sc bytes)
+read_variable sc bytes at = and_then (read_word bytes at) (known sc bytes)
 
--- a variable that NEW lists
-abbrev pub read_listed : Scope → Reader ℕ
-read_listed sc bytes at = and_then (read_variable sc bytes at) (λ v j. cond (renews sc v) (got v j) (refuse Name at))
+-- a name that NEW lists; ahead of another it is `new!`, at its own place, that is refused
+abbrev pub read_listed : Scope → ℕ → Reader ℕ
+read_listed sc place bytes at = and_then (read_name bytes at) (λ s j. found place (renewed sc (slice bytes s)) j)
+
+-- what follows `new!`, which stands at a place: outside of NEW it is refused at once
+abbrev pub read_renewed : Scope → ℕ → Reader ℕ
+read_renewed sc place bytes at = cond (is_some sc.listed) ((read_gap ▷ read_listed sc place) bytes at) (refuse Name place)
 
 abbrev pub mention : Aspect → Stage → ℕ → UnitRow
 mention a s v = Mentioned (record { variable = v; aspect = a; stage = s })
 
--- what follows `defined!`: a variable, or `new!` and a listed one
+-- what follows `defined!`: `new!` and a listed variable, or a variable
 abbrev pub read_defined : Scope → Reader UnitRow
 read_defined sc bytes at =
-    and_then (read_name bytes at) (λ s j.
-    cond (stands 33 bytes j)
-    (cond (same_word (slice bytes s) (codes "new"))
-    ((read_gap ▷ (read_listed sc giving mention Shadow New)) bytes (j + 1))
-    (refuse Missing at))
-    (and_then (known sc bytes s j) (λ v k. got (mention Shadow Current v) k)))
+    cond (starts_with (codes "new!") bytes at)
+    ((read_renewed sc at giving mention Shadow New) bytes (at + 4))
+    ((read_variable sc giving mention Shadow Current) bytes at)
 
--- what follows a word and its `!`, up to the operands
-abbrev pub by_head : Scope → Head → Reader UnitRow
-by_head sc ConstantHead = read_gap ▷ (read_number giving Constant)
-by_head sc Defined = read_gap ▷ read_defined sc
-by_head sc NewHead = read_gap ▷ (read_listed sc giving mention Value New)
-by_head sc (OperatorHead o) = λ bytes i. got (Applied o) i
+-- what follows a word, which stands at a place, and its `!`, up to the operands
+abbrev pub by_head : Scope → ℕ → Head → Reader UnitRow
+by_head sc place ConstantHead = read_gap ▷ (read_number giving Constant)
+by_head sc place Defined = read_gap ▷ read_defined sc
+by_head sc place NewHead = read_renewed sc place giving mention Value New
+by_head sc place (OperatorHead o) = λ bytes i. got (Applied o) i
 
 abbrev pub by_head_found : Scope → ℕ → Option Head → Reader UnitRow
-by_head_found sc at (Some h) bytes i = by_head sc h bytes i
-by_head_found sc at None bytes i = refuse Name at
+by_head_found sc place (Some h) bytes i = by_head sc place h bytes i
+by_head_found sc place None bytes i = refuse Name place
 
--- the row that a term begins with
+-- the row that a term begins with: a word with `!` after it, and what that opens, or a variable
 abbrev pub read_row : Scope → Reader UnitRow
 read_row sc bytes at =
-    and_then (read_name bytes at) (λ s j.
+    and_then (read_word bytes at) (λ s j.
     cond (stands 33 bytes j)
     (by_head_found sc at (head_of (slice bytes s)) bytes (j + 1))
     (and_then (known sc bytes s j) (λ v k. got (mention Value Current v) k)))

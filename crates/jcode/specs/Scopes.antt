@@ -1,7 +1,8 @@
 -- What a term can mention: the names that are declared, and in NEW the variables that it lists.
 use Rattle.std.specs.Prelude.{ℕ, ◌+◌, Bool, false, cond, List, map, take, Option, Some, nat_eq, nat_lt, position, slice_set}
+use Rattle.std.specs.Bool.{then_some}
 use Rattle.std.specs.List.{list_any}
-use Rattle.std.specs.Option.{option_map, option_map_or}
+use Rattle.std.specs.Option.{option_and_then, option_map, option_map_or}
 use Rattle.terms.specs.Words.{same_word}
 use Rattle.jcode.specs.declared.scope.Scope.{Scope as CodeScope}
 use Rattle.jcode.specs.declared.statement.Listing.{Listing}
@@ -27,6 +28,10 @@ renews sc v = option_map_or (member v) sc.listed false
 -- the number of the first name that is this one
 abbrev pub index_of : List ℕ → List (List ℕ) → Option ℕ
 index_of w names = position (same_word w) names
+
+-- the number of the variable of this name, if NEW lists it
+abbrev pub renewed : Scope → List ℕ → Option ℕ
+renewed sc w = option_and_then (λ v. then_some (renews sc v) v) (index_of w sc.names)
 
 -- the name of a variable, in the bytes
 abbrev pub name_in : List ℕ → Variable → List ℕ

@@ -2,7 +2,7 @@
 
 ghost use Rattle.std.specs.Prelude.{◌≡◌, ◌+◌, ◌-◌, ◌^◌, ◌<◌, ◌≤◌, min, length, IfOk, IfSome, Ok, slice_get};
 ghost use Rattle.jcode.specs.Bytes.{in_class, run_at, text_run, text_at, slice};
-ghost use Rattle.jcode.specs.Pieces.{Reads, value_after, proper, white, read_mark, read_white, read_gap, read_end, read_may_gap, read_word, read_name, read_keyword, read_decimal, read_number, read_label, read_inner, read_text};
+ghost use Rattle.jcode.specs.Pieces.{Reads, told, value_after, proper, white, starts_with, short, read_mark, read_white, read_gap, read_end, read_may_gap, read_word, read_name, read_keyword, read_decimal, read_number, read_label, read_inner, read_text};
 
 use super::class::Class;
 use super::piece::{NAME_LIMIT, TEXT_LIMIT};
@@ -66,11 +66,18 @@ impl Cursor<'_> {
         self.bytes.get(self.at).copied()
     }
 
+    // Whether these bytes stand at the cursor.
+    pub(super) fn starts_with(&self, wanted: &[u8]) -> bool
+        ensures { result ≡ starts_with wanted.now self.now.bytes.now self.now.at }
+    {
+        same_word(part(self.bytes, self.at, wanted.len()), wanted)
+    }
+
     // Bytes that are one piece.
     pub(super) fn mark(&mut self, wanted: &[u8]) -> Result<(), ReadFault>
         ensures { Reads (read_mark wanted.now) self.old result self.new }
     {
-        if !same_word(part(self.bytes, self.at, wanted.len()), wanted) {
+        if !self.starts_with(wanted) {
             return Err(Refusal::Missing.at(self.at));
         }
         self.at += wanted.len();
@@ -140,14 +147,21 @@ impl Cursor<'_> {
         Ok(word)
     }
 
+    // The word that was read, if it is short enough for a name.
+    pub(super) fn short(&self, word: Span) -> Result<Span, ReadFault>
+        ensures { told result self.now.at ≡ short word self.now.at }
+    {
+        if word.length > NAME_LIMIT {
+            return Err(Refusal::Limit.at(word.start));
+        }
+        Ok(word)
+    }
+
     pub(super) fn name(&mut self) -> Result<Span, ReadFault>
         ensures { Reads read_name self.old result self.new }
     {
-        let name = self.word()?;
-        if name.length > NAME_LIMIT {
-            return Err(Refusal::Limit.at(name.start));
-        }
-        Ok(name)
+        let word = self.word()?;
+        self.short(word)
     }
 
     pub(super) fn keyword(&mut self, wanted: &[u8]) -> Result<(), ReadFault>

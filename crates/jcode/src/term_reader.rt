@@ -3,7 +3,7 @@
 ghost use Rattle.std.specs.Prelude.{◌≡◌, ◌<◌, ◌≤◌, true, length, OnOk};
 ghost use Rattle.jcode.specs.Pieces.{Reads, told};
 ghost use Rattle.jcode.specs.Scopes.{scope_of};
-ghost use Rattle.jcode.specs.ReadTerms.{head_of, mention, by_head, known, read_variable, read_listed, read_defined, read_row, read_open, read_begin, read_close, read_lead, read_operands, read_term, ReadsRows};
+ghost use Rattle.jcode.specs.ReadTerms.{head_of, mention, by_head, known, read_variable, read_renewed, read_defined, read_row, read_open, read_begin, read_close, read_lead, read_operands, read_term, ReadsRows};
 ghost use Rattle.jcode.specs.Rows.{operands_after};
 
 use super::cursor::Cursor;
@@ -14,7 +14,7 @@ use super::span::Span;
 use super::table::Table;
 use terms::operator::{Operator, find};
 use terms::row::Row;
-use terms::word::{Entry, lookup, same_word};
+use terms::word::{Entry, lookup};
 
 // What a word opens that `!` follows.
 #[derive(Clone, Copy, Debug, PartialEq, Eq)]
@@ -61,11 +61,11 @@ fn operands_after(row: UnitRow) -> usize
 
 // Scope and rows are parameters and no fields of the cursor: most readers leave them alone, and each would have to promise that.
 impl Cursor<'_> {
-    // The variable that a name declares.
-    #[tactic(auto, using(crate::proofs::Names::position_map))]
-    fn known(&self, scope: Scope, name: Span) -> Result<usize, ReadFault>
-        ensures { told result self.now.at ≡ known (scope_of scope.entry) self.now.bytes.now name self.now.at }
+    // The variable that a word names.
+    fn known(&self, scope: Scope, word: Span) -> Result<usize, ReadFault>
+        ensures { told result self.now.at ≡ known (scope_of scope.entry) self.now.bytes.now word self.now.at }
     {
+        let name = self.short(word)?;
         let unknown = Refusal::Name.at(name.start);
         scope.find(name.of(self.bytes)).ok_or(unknown)
     }
@@ -73,43 +73,40 @@ impl Cursor<'_> {
     pub(super) fn variable(&mut self, scope: Scope) -> Result<usize, ReadFault>
         ensures { Reads (read_variable (scope_of scope.entry)) self.old result self.new }
     {
-        let name = self.name()?;
-        self.known(scope, name)
+        let word = self.word()?;
+        self.known(scope, word)
     }
 
-    // A variable that NEW lists.
-    fn listed(&mut self, scope: Scope) -> Result<usize, ReadFault>
-        ensures { Reads (read_listed (scope_of scope.entry)) self.old result self.new }
+    // What follows `new!`, which stands at this place. Outside of NEW, or ahead of a name that is not listed, it is `new!` that is refused.
+    fn renewed(&mut self, scope: Scope, place: usize) -> Result<usize, ReadFault>
+        ensures { Reads (read_renewed (scope_of scope.entry) place) self.old result self.new }
     {
-        let place = self.at;
-        let variable = self.variable(scope)?;
-        if !scope.renews(variable) {
-            return Err(Refusal::Name.at(place));
+        let misplaced = Refusal::Name.at(place);
+        if scope.listing.is_none() {
+            return Err(misplaced);
         }
-        Ok(variable)
+        self.gap()?;
+        let name = self.name()?;
+        scope.renewed(name.of(self.bytes)).ok_or(misplaced)
     }
 
-    // What follows `defined!`: a variable, or `new!` and a listed one.
+    // What follows `defined!`: `new!` and a listed variable, or a variable.
     fn defined(&mut self, scope: Scope) -> Result<UnitRow, ReadFault>
         ensures { Reads (read_defined (scope_of scope.entry)) self.old result self.new }
     {
-        let name = self.name()?;
-        if self.peek() != Some(b'!') {
-            let variable = self.known(scope, name)?;
-            return Ok(mentioned(variable, Aspect::Shadow, Stage::Current));
+        let place = self.at;
+        if self.starts_with(b"new!") {
+            self.at += 4;
+            let variable = self.renewed(scope, place)?;
+            return Ok(mentioned(variable, Aspect::Shadow, Stage::New));
         }
-        self.at += 1;
-        if !same_word(name.of(self.bytes), b"new") {
-            return Err(Refusal::Missing.at(name.start));
-        }
-        self.gap()?;
-        let variable = self.listed(scope)?;
-        Ok(mentioned(variable, Aspect::Shadow, Stage::New))
+        let variable = self.variable(scope)?;
+        Ok(mentioned(variable, Aspect::Shadow, Stage::Current))
     }
 
-    // What follows a word and its `!`, up to the operands.
-    fn headed(&mut self, scope: Scope, head: Head) -> Result<UnitRow, ReadFault>
-        ensures { Reads (by_head (scope_of scope.entry) head) self.old result self.new }
+    // What follows a word, which stands at this place, and its `!`, up to the operands.
+    fn headed(&mut self, scope: Scope, place: usize, head: Head) -> Result<UnitRow, ReadFault>
+        ensures { Reads (by_head (scope_of scope.entry) place head) self.old result self.new }
     {
         match head {
             Head::Constant => {
@@ -122,25 +119,24 @@ impl Cursor<'_> {
                 self.defined(scope)
             }
             Head::New => {
-                self.gap()?;
-                let variable = self.listed(scope)?;
+                let variable = self.renewed(scope, place)?;
                 Ok(mentioned(variable, Aspect::Value, Stage::New))
             }
             Head::Operator(operator) => Ok(Row::Operator(operator)),
         }
     }
 
-    // The row that a term begins with.
+    // The row that a term begins with. Only a name has a limit of length, so the word before `!` has none.
     fn row(&mut self, scope: Scope) -> Result<UnitRow, ReadFault>
         ensures { Reads (read_row (scope_of scope.entry)) self.old result self.new }
     {
-        let name = self.name()?;
+        let word = self.word()?;
         if self.peek() == Some(b'!') {
             self.at += 1;
-            let head = Head::find(name.of(self.bytes)).ok_or(Refusal::Name.at(name.start))?;
-            return self.headed(scope, head);
+            let head = Head::find(word.of(self.bytes)).ok_or(Refusal::Name.at(word.start))?;
+            return self.headed(scope, word.start, head);
         }
-        let variable = self.known(scope, name)?;
+        let variable = self.known(scope, word)?;
         Ok(mentioned(variable, Aspect::Value, Stage::Current))
     }
 

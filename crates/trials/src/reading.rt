@@ -12,7 +12,7 @@ use std::test::Fail;
 use terms::row::Row;
 
 // Bytes, and the number and place of their refusal.
-static REFUSED: [(&'static [u8], u8, usize); 55] = [
+static REFUSED: [(&'static [u8], u8, usize); 78] = [
     // reading starts with no byte
     (b"", 1, 0),
     // another word than BEGIN
@@ -87,12 +87,6 @@ static REFUSED: [(&'static [u8], u8, usize); 55] = [
         1,
         69,
     ),
-    // a word with ! after defined! other than new!
-    (
-        b"BEGIN U\np : (variable (subrange 0 9))\nq : (variable (boolean))\nPROCLAIM (defined! old! p)\nHANG\nEND\n",
-        1,
-        82,
-    ),
     // a leading zero
     (
         b"BEGIN U\np : (variable (subrange 00 9))\nHANG\nEND\n",
@@ -142,12 +136,6 @@ static REFUSED: [(&'static [u8], u8, usize); 55] = [
         b"BEGIN U\naaaaaaaaaaaaaaaaaaaaaaaaaaaaaaaaa : (variable (integer))\n",
         3,
         8,
-    ),
-    // an operator's word of 33 bytes
-    (
-        b"BEGIN U\nPROCLAIM (aaaaaaaaaaaaaaaaaaaaaaaaaaaaaaaaa! (p))\n",
-        3,
-        18,
     ),
     // an unknown name of 33 bytes
     (
@@ -215,17 +203,167 @@ static REFUSED: [(&'static [u8], u8, usize); 55] = [
         5,
         70,
     ),
-    // new! outside NEW
+    // new! outside of NEW
     (
         b"BEGIN U\np : (variable (subrange 0 9))\nq : (variable (boolean))\nPROCLAIM (new! q)\nHANG\nEND\n",
         5,
-        78,
+        73,
+    ),
+    // in a unit of one variable
+    (
+        b"BEGIN u\nv : (variable (boolean))\nREQUIRE (new! v) (//)\nHANG\nEND\n",
+        5,
+        42,
+    ),
+    // with no gap after it
+    (
+        b"BEGIN U\np : (variable (subrange 0 9))\nq : (variable (boolean))\nPROCLAIM (new!q)\nHANG\nEND\n",
+        5,
+        73,
+    ),
+    // with nothing after it
+    (
+        b"BEGIN U\np : (variable (subrange 0 9))\nq : (variable (boolean))\nPROCLAIM (new!",
+        5,
+        73,
+    ),
+    // ahead of a name that is too long
+    (
+        b"BEGIN U\np : (variable (subrange 0 9))\nq : (variable (boolean))\nPROCLAIM (new! aaaaaaaaaaaaaaaaaaaaaaaaaaaaaaaaa)\nHANG\nEND\n",
+        5,
+        73,
+    ),
+    // in ASSIGN
+    (
+        b"BEGIN U\np : (variable (subrange 0 9))\nq : (variable (boolean))\nASSIGN (p) (p) (true!) (new! p)\nHANG\nEND\n",
+        5,
+        87,
+    ),
+    // after defined!
+    (
+        b"BEGIN U\np : (variable (subrange 0 9))\nq : (variable (boolean))\nPROCLAIM (defined! new! q)\nHANG\nEND\n",
+        5,
+        82,
+    ),
+    // after defined!, with nothing after it
+    (
+        b"BEGIN U\np : (variable (subrange 0 9))\nq : (variable (boolean))\nPROCLAIM (defined! new!)\nHANG\nEND\n",
+        5,
+        82,
+    ),
+    // new! in a NEW that lists nothing
+    (
+        b"BEGIN U\np : (variable (subrange 0 9))\nq : (variable (boolean))\nNEW () (new! q) (/x/)\nHANG\nEND\n",
+        5,
+        71,
     ),
     // new! of a variable that is not listed
     (
+        b"BEGIN U\np : (variable (subrange 0 9))\nq : (variable (boolean))\nNEW (q) (new! p) (/x/)\nHANG\nEND\n",
+        5,
+        72,
+    ),
+    // of an unknown name
+    (
+        b"BEGIN U\np : (variable (subrange 0 9))\nq : (variable (boolean))\nNEW (q) (new! r) (/x/)\nHANG\nEND\n",
+        5,
+        72,
+    ),
+    // of a variable that is not listed, after defined!
+    (
         b"BEGIN U\np : (variable (subrange 0 9))\nq : (variable (boolean))\nNEW (q) (defined! new! p) (/x/)\nHANG\nEND\n",
         5,
+        81,
+    ),
+    // of an unknown name, after defined!
+    (
+        b"BEGIN U\np : (variable (subrange 0 9))\nq : (variable (boolean))\nNEW () (defined! new! r) (/x/)\nHANG\nEND\n",
+        5,
+        80,
+    ),
+    // no gap after new!
+    (
+        b"BEGIN U\np : (variable (subrange 0 9))\nq : (variable (boolean))\nNEW (q) (new!q) (/x/)\nHANG\nEND\n",
+        1,
+        76,
+    ),
+    // no gap after new! in a NEW that lists nothing
+    (
+        b"BEGIN U\np : (variable (subrange 0 9))\nq : (variable (boolean))\nNEW () (new!(q)) (/x/)\nHANG\nEND\n",
+        1,
+        75,
+    ),
+    // no gap after new! after defined!
+    (
+        b"BEGIN U\np : (variable (subrange 0 9))\nq : (variable (boolean))\nNEW (q) (defined! new!q) (/x/)\nHANG\nEND\n",
+        1,
+        85,
+    ),
+    // no name after new!
+    (
+        b"BEGIN U\np : (variable (subrange 0 9))\nq : (variable (boolean))\nNEW (q) (new! 5) (/x/)\nHANG\nEND\n",
+        1,
+        77,
+    ),
+    // no name after new! after defined!
+    (
+        b"BEGIN U\np : (variable (subrange 0 9))\nq : (variable (boolean))\nNEW () (defined! new! (q)) (/x/)\nHANG\nEND\n",
+        1,
+        85,
+    ),
+    // a name of 33 bytes after new!
+    (
+        b"BEGIN U\np : (variable (subrange 0 9))\nq : (variable (boolean))\nNEW (q) (new! aaaaaaaaaaaaaaaaaaaaaaaaaaaaaaaaa) (/x/)\nHANG\nEND\n",
+        3,
+        77,
+    ),
+    // a name of 33 bytes after new! after defined!
+    (
+        b"BEGIN U\np : (variable (subrange 0 9))\nq : (variable (boolean))\nNEW (q) (defined! new! aaaaaaaaaaaaaaaaaaaaaaaaaaaaaaaaa) (/x/)\nHANG\nEND\n",
+        3,
         86,
+    ),
+    // a listed name with ! after new!
+    (
+        b"BEGIN U\np : (variable (subrange 0 9))\nq : (variable (boolean))\nNEW (q) (new! q! q) (/x/)\nHANG\nEND\n",
+        1,
+        78,
+    ),
+    // a variable with ! after defined!
+    (
+        b"BEGIN U\np : (variable (subrange 0 9))\nq : (variable (boolean))\nPROCLAIM (defined! q! )\nHANG\nEND\n",
+        1,
+        83,
+    ),
+    // an unknown name with ! after defined!
+    (
+        b"BEGIN U\np : (variable (subrange 0 9))\nq : (variable (boolean))\nPROCLAIM (defined! old! p)\nHANG\nEND\n",
+        5,
+        82,
+    ),
+    // no modifier but new! follows defined!
+    (
+        b"BEGIN U\np : (variable (subrange 0 9))\nq : (variable (boolean))\nPROCLAIM (defined! consti! 5)\nHANG\nEND\n",
+        5,
+        82,
+    ),
+    // a name of 33 bytes with ! after defined!
+    (
+        b"BEGIN U\np : (variable (subrange 0 9))\nq : (variable (boolean))\nPROCLAIM (defined! aaaaaaaaaaaaaaaaaaaaaaaaaaaaaaaaa! p)\nHANG\nEND\n",
+        3,
+        82,
+    ),
+    // an unknown operator of 33 bytes
+    (
+        b"BEGIN U\nPROCLAIM (aaaaaaaaaaaaaaaaaaaaaaaaaaaaaaaaa! (p))\n",
+        5,
+        18,
+    ),
+    // an unknown operator of 60 bytes that begins as another
+    (
+        b"BEGIN U\nPROCLAIM (trueeeeeeeeeeeeeeeeeeeeeeeeeeeeeeeeeeeeeeeeeeeeeeeeeeeeeeeee!)\n",
+        5,
+        18,
     ),
     // ASSIGN that repeats another name
     (
@@ -242,7 +380,7 @@ static REFUSED: [(&'static [u8], u8, usize); 55] = [
 ];
 
 // Bytes, and how many variables, statements and rows are read of them.
-static READ: [(&'static [u8], [usize; 3]); 17] = [
+static READ: [(&'static [u8], [usize; 3]); 20] = [
     // a gap is no must after BREAK
     (b"BEGIN U\nBREAK(/x/)\nHANG\nEND\n", [0, 2, 0]),
     // nor ahead of a label
@@ -304,6 +442,21 @@ static READ: [(&'static [u8], [usize; 3]); 17] = [
     (
         b"BEGIN U\nv0 : (variable (integer))\nv1 : (variable (integer))\nv2 : (variable (integer))\nv3 : (variable (integer))\nv4 : (variable (integer))\nv5 : (variable (integer))\nv6 : (variable (integer))\nv7 : (variable (integer))\nNEW (v0 v1 v2 v3 v4 v5 v6 v7) (true!) (/x/)\nHANG\nEND\n",
         [8, 2, 1],
+    ),
+    // new! of a listed variable
+    (
+        b"BEGIN U\np : (variable (subrange 0 9))\nq : (variable (boolean))\nNEW (q) (new! q) (/x/)\nHANG\nEND\n",
+        [2, 2, 1],
+    ),
+    // new! and defined! new! of listed variables, beside the current ones
+    (
+        b"BEGIN U\np : (variable (subrange 0 9))\nq : (variable (boolean))\nNEW (p q) (and! (new! q)(equal! (defined! new! p) (defined! p))) (/x/)\nHANG\nEND\n",
+        [2, 2, 5],
+    ),
+    // new may be a variable's name ahead of a bracket
+    (
+        b"BEGIN U\nnew : (variable (boolean))\nNEW (new) (and! (defined! new) (new! new)) (/x/)\nHANG\nEND\n",
+        [1, 2, 3],
     ),
     // no statement at all
     (b"BEGIN U\nEND\n", [0, 0, 0]),
