@@ -6,3 +6,6 @@ pub mod Ruling
 pub mod Telling
 pub mod Outlining
 pub mod Entries
+pub mod Wording
+pub mod Writing
+pub mod Spelling

@@ -6,6 +6,7 @@ pub mod Pieces
 pub mod Sentences
 pub mod Layouts
 pub mod Readable
+pub mod Spelled
 pub mod Faults
 pub mod Breaks
 pub mod Steps

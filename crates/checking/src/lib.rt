@@ -8,6 +8,7 @@ pub mod kinding;
 mod kinds;
 mod layout;
 pub mod nesting;
+pub mod notation;
 mod pieces;
 mod rules;
 mod sentences;

@@ -2,11 +2,11 @@
 use Rattle.std.proofs.Common.{◌≡◌, ℕ, zero, suc, ◌+◌, ◌-◌, ◌≤◌, Bool, true, false, cond, not, ◌&&◌, ltb, List, [], ◌∷◌, ◌++◌, length, take, drop, get_or, sym, refl, ap, ◌∙◌, subst, ⊎_elim, arith, one-add, length-drop, take-append-drop}
 use Rattle.std.specs.Prelude.{codes}
 use Rattle.std.specs.List.{list_all, prefix_len, range_with_len}
-use Rattle.std.proofs.lemmas.Bool.{cases_Bool, cond-true, cond-false, and_parts, and_from, and_right, not-true, not_from_false, le-ltb, ltb-false}
-use Rattle.std.proofs.lemmas.List.{get_or-drop, drop-drop, take_at, length-take-le}
+use Rattle.std.proofs.lemmas.Bool.{cases_Bool, cond-true, cond-false, and_parts, and_from, and_right, not-true, not_from_false, eqb-true, le-ltb, ltb-false}
+use Rattle.std.proofs.lemmas.List.{get_or-drop, drop-drop, take_all, take_at, length-take-le}
 use Rattle.std.proofs.lemmas.List.Folds.{length-prefix_len}
 use Rattle.terms.specs.Words.{same_word}
-use Rattle.jcode.specs.Bytes.{text_byte, slice, text_at, text_run}
+use Rattle.jcode.specs.Bytes.{text_byte, slice, text_at, text_run, is_text}
 use Rattle.jcode.specs.Language.{Language, Unclosed, IsText, Text, Spelt}
 use Rattle.jcode.specs.Spelling.{Sizes}
 use Rattle.jcode.specs.Pieces.{got, read_inner, read_text}
@@ -95,6 +95,12 @@ module _ (bytes : List ℕ) where
 
   abbrev Closes : ℕ → Type 0
   Closes j = take 2 (drop j bytes) ≡ codes "/)"
+
+-- bytes that pass as a text's are so
+pub plain_text : (t : List ℕ) → is_text t ≡ true → (list_all text_byte t ≡ true) × Unclosed t
+plain_text t e =
+    let all : text_len t ≡ length t = sym (run_is t 0) ∙ eqb-true (n t 0) (length t) e in
+    subst IsPlain (take_all (text_len t) t (omega arith)) (text_plain t)
 
 module _ {tables : Sizes} {bytes : List ℕ} where
   inner_agrees : Agrees tables bytes read_inner (slice bytes) (plain Inner) (Closes bytes)

@@ -1,0 +1,8 @@
+// Laws of the rules that tables keep: they are the notation's.
+
+ghost use Rattle.checking.specs.Spelled.{ReadableIsSpelled};
+
+// Tables that keep the rules of reading hold a unit that the notation allows: some bytes spell it, within the limits.
+pub fn readable_stands()
+    ensures { ReadableIsSpelled }
+{}
