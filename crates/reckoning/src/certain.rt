@@ -7,7 +7,7 @@ use super::decision::Decision;
 use super::mark::Mark;
 
 // Whether a number of `a` is less than one of `b`.
-pub fn less(a: Mark, b: Mark) -> Decision
+pub(super) fn less(a: Mark, b: Mark) -> Decision
     ensures { result ≡ certain_less a b }
 {
     match (a, b) {
@@ -18,7 +18,7 @@ pub fn less(a: Mark, b: Mark) -> Decision
 }
 
 // Whether a number of `a` is equal to one of `b`.
-pub fn equal(a: Mark, b: Mark) -> Decision
+pub(super) fn equal(a: Mark, b: Mark) -> Decision
     ensures { result ≡ certain_equal a b }
 {
     match (a, b) {
@@ -30,7 +30,7 @@ pub fn equal(a: Mark, b: Mark) -> Decision
 }
 
 // Whether a number of `a` is odd.
-pub fn odd(a: Mark) -> Decision
+pub(super) fn odd(a: Mark) -> Decision
     ensures { result ≡ certain_odd a }
 {
     match a {

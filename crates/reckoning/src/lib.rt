@@ -1,7 +1,7 @@
 // Reckonings: computing with terms exactly or by bounds, each an abstract domain over whole numbers.
 #![tactic(auto)]
 
-pub mod certain;
+mod certain;
 pub mod decision;
 pub mod evaluation;
 pub mod mark;
