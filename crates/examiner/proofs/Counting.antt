@@ -1,10 +1,10 @@
 -- Settlements in order: how many there are, which are settled as what, and the lowest that failed.
-use Rattle.std.proofs.Common.{◌≡◌, ◌≢◌, ◌⊎◌, ℕ, ◌+◌, ◌<◌, ◌≤◌, List, [], ◌∷◌, length, Some, None, Option, sym, refl, ap, ◌∙◌, inl, inr, ⊎_elim, arith}
+use Rattle.std.proofs.Common.{◌≡◌, ◌≢◌, ◌⊎◌, ℕ, ◌+◌, ◌<◌, ◌≤◌, List, [], ◌∷◌, length, Some, None, Option, sym, refl, ap, ◌∙◌, subst, inl, inr, ⊎_elim, arith}
 use Rattle.std.proofs.lemmas.Bool.{cases_lt}
 use Rattle.sheets.specs.declared.outcome.Outcome.{Outcome}
 use Rattle.sheets.specs.declared.outcome.Outcome.TheVariants.{Passed, Failed, Open}
 use Rattle.examiner.specs.Histories.{Settlement, one_if, how_many, or_now, first_failed}
-use Rattle.examiner.specs.Promises.{HasSettled, InOrder}
+use Rattle.examiner.specs.Promises.{HasSettled, IsSettled, NoneFailed, SettledAs, InOrder}
 
 pub one_each : (o : Outcome) → one_if Passed o + one_if Failed o + one_if Open o ≡ 1
 one_each Passed = refl
@@ -14,6 +14,25 @@ one_each Open = refl
 pub all_counted : (ss : List Settlement) → length ss ≡ how_many Passed ss + how_many Failed ss + how_many Open ss
 all_counted [] = refl
 all_counted (s ∷ before) = omega (arith, one_each s.outcome, all_counted before)
+
+one_or_none : (o a : Outcome) → ((a ≡ o) × (one_if o a ≡ 1)) ⊎ ((a ≢ o) × (one_if o a ≡ 0))
+one_or_none Passed Passed = inl (refl, refl)
+one_or_none Passed Failed = inr (λ e. cc, refl)
+one_or_none Passed Open = inr (λ e. cc, refl)
+one_or_none Failed Passed = inr (λ e. cc, refl)
+one_or_none Failed Failed = inl (refl, refl)
+one_or_none Failed Open = inr (λ e. cc, refl)
+one_or_none Open Passed = inr (λ e. cc, refl)
+one_or_none Open Failed = inr (λ e. cc, refl)
+one_or_none Open Open = inl (refl, refl)
+
+-- the count of an outcome is of those that were settled as it
+pub settled_as : (o : Outcome) (ss : List Settlement) → SettledAs o ss (how_many o ss)
+settled_as o [] = refl
+settled_as o (s ∷ before) = ⊎_elim
+    (λ e. inl (e.0, (how_many o before, omega (arith, e.1), settled_as o before)))
+    (λ e. inr (e.0, subst (SettledAs o before) (omega (arith, e.1)) (settled_as o before)))
+    (one_or_none o s.outcome)
 
 pub has_low : (ss : List Settlement) (k : ℕ) (o : Outcome) → InOrder ss → HasSettled k o ss → k < length ss
 has_low [] k o i h = absurd h
@@ -102,3 +121,43 @@ which_first ss k (Some j) i low e = ap Some (same_lowest ss j k (first_is ss j i
 
 pub is_first : (ss : List Settlement) (k : ℕ) → InOrder ss → LowestFailed ss k → first_failed ss ≡ Some k
 is_first ss k i low = which_first ss k (first_failed ss) i low refl
+
+pub none_has_failed : (ss : List Settlement) → first_failed ss ≡ None → NoneFailed ss
+none_has_failed ss e k = none_failed ss k e
+
+none_first : (ss : List Settlement) (f : Option ℕ) → InOrder ss → NoneFailed ss → first_failed ss ≡ f → f ≡ None
+none_first ss None i none e = refl
+none_first ss (Some k) i none e = absurd (none k (first_is ss k i e).has)
+
+pub no_first : (ss : List Settlement) → InOrder ss → NoneFailed ss → first_failed ss ≡ None
+no_first ss i none = none_first ss (first_failed ss) i none refl
+
+-- all numbers below how many there are, and no others, are settled
+pub each_settled : (ss : List Settlement) → InOrder ss → (k : ℕ) → k < length ss → IsSettled k ss
+each_settled [] i k l = absurd (omega arith)
+each_settled (s ∷ before) i k l =
+    let here : length before ≤ k → IsSettled k (s ∷ before) = λ h. (s.outcome, inl (omega (arith, i.0), refl)) in
+    let there : k < length before → IsSettled k (s ∷ before) = λ h. let e = each_settled before i.1 k h in (e.0, inr e.1) in
+    ⊎_elim there here (cases_lt k (length before))
+
+pub settled_low : (ss : List Settlement) (k : ℕ) → InOrder ss → IsSettled k ss → k < length ss
+settled_low ss k i h = has_low ss k h.0 i h.1
+
+-- some are settled as open exactly if some are counted as open
+one_open : (o : Outcome) → o ≡ Open → one_if Open o ≡ 1
+one_open o e = ap (one_if Open) e
+
+pub some_open : (ss : List Settlement) (k : ℕ) → HasSettled k Open ss → 0 < how_many Open ss
+some_open [] k h = absurd h
+some_open (s ∷ before) k (inl h) = omega (arith, one_open s.outcome h.1)
+some_open (s ∷ before) k (inr h) = let l = some_open before k h in omega arith
+
+open_now : (o : Outcome) (n : ℕ) → 0 < n + one_if Open o → (o ≡ Open) ⊎ (0 < n)
+open_now Passed n l = inr (omega arith)
+open_now Failed n l = inr (omega arith)
+open_now Open n l = inl refl
+
+pub which_open : (ss : List Settlement) → 0 < how_many Open ss → (k : ℕ) × HasSettled k Open ss
+which_open [] l = absurd (omega arith)
+which_open (s ∷ before) l =
+    ⊎_elim (λ e. (s.number, inl (refl, e))) (λ m. let w = which_open before m in (w.0, inr w.1)) (open_now s.outcome (how_many Open before) l)

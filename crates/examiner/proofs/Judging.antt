@@ -49,6 +49,8 @@ spelled_run u sure k l w f =
 
 pub just : (u : JUnit) → Sure u → (s : Settlement) (before after : Held) → Sound s.judge → s.number < path_count u → Settled (condition u s.number) (opinion_in u s) s.outcome before after → Just u s
 just u sure s before after sound l x = record {
+  below = l;
+  on_path = sure.numbered.each_is_path s.number l;
   lawful = sound;
   passed = passed_as _ (opinion_in u s) s.outcome _ x.answer;
   failed = failed_as _ (opinion_in u s) s.outcome _ x.answer;

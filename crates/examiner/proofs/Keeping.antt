@@ -1,24 +1,28 @@
 -- Every history keeps what an examination promises.
-use Rattle.std.proofs.Common.{◌≡◌, ℕ, ◌<◌, ◌≤◌, Bool, true, false, List, [], ◌∷◌, length, leb, ltb, ℤ, Some, None, Ok, Err, Option, Result, sym, refl, ap, subst, inl, inr, ⊎_elim, arith}
+use Rattle.std.proofs.Common.{◌≡◌, ℕ, ◌<◌, ◌≤◌, Bool, true, false, List, [], ◌∷◌, length, leb, ltb, ℤ, Some, None, Ok, Err, Option, Result, sym, refl, ap, ◌∙◌, subst, inl, inr, ⊎_elim, arith}
 use Rattle.std.specs.Prelude.{◌↔◌}
-use Rattle.std.proofs.lemmas.Bool.{cases_lt, leb-true, le-leb, ltb-false, le-ltb}
+use Rattle.std.proofs.lemmas.Bool.{cases_lt, leb-true, leb-false, le-leb, lt-leb, ltb-true, ltb-false, le-ltb, lt-ltb}
 use Rattle.jcode.specs.declared.refusal.Refusal.TheVariants as refusal
 use Rattle.jcode.specs.Units.{JUnit}
 use Rattle.sheets.specs.declared.fault.SheetFault.{SheetFault}
+use Rattle.sheets.specs.declared.outcome.Outcome.{Outcome}
 use Rattle.sheets.specs.declared.outcome.Outcome.TheVariants.{Passed, Failed, Open}
 use Rattle.sheets.specs.Faults.{refused}
 use Rattle.sheets.specs.Runs.{Fails}
 use Rattle.sheets.specs.PathSheets.{sheet_of}
-use Rattle.sheets.specs.Settling.{condition}
+use Rattle.sheets.specs.Settling.{Held, condition}
 use Rattle.sheets.specs.Valuations.{Falsifies}
+use Rattle.examiner.specs.declared.slip.Returned.{Returned}
 use Rattle.examiner.specs.declared.slip.Slip.{Slip}
 use Rattle.examiner.specs.declared.verdict.Judgement.TheVariants as judgement
-use Rattle.examiner.specs.Histories.{Event, History, Settlement, took, settled, handed_back, told, accepted, out, how_many, first_failed}
-use Rattle.examiner.specs.Promises.{Just, HasSettled, Honest, Keeps, Kept}
-use Rattle.examiner.specs.Steps.{path_count, taken, judged, verdict_on, Happened}
-use Rattle.examiner.proofs.Counting.{AllPassed, all_counted, only_passed, each_passed, has_low, first_is, is_first}
-use Rattle.examiner.proofs.Going.{Going, going}
+use Rattle.examiner.specs.Histories.{Meaning, Event, History, Settlement, took, settled, handed_back, told, accepted, out, how_many, first_failed}
+use Rattle.examiner.specs.Owing.{Owed}
+use Rattle.examiner.specs.Promises.{Just, HasSettled, IsSettled, NoneFailed, Honest, TakeKeeps, SettlementKeeps, HandBackKeeps, Keeps, Kept, returned}
+use Rattle.examiner.specs.Steps.{path_count, taken, judged, verdict_on, Step, Happened}
+use Rattle.examiner.proofs.Counting.{AllPassed, all_counted, settled_as, only_passed, each_passed, each_settled, settled_low, first_is, is_first, none_has_failed, no_first, some_open, which_open}
+use Rattle.examiner.proofs.Going.{Going, going, taken_ok}
 use Rattle.examiner.proofs.Judging.{Sure, just, found_sound}
+use Rattle.examiner.proofs.Spending.{is_owed, is_out, none_out}
 
 abbrev EachJust : JUnit → List Settlement → Type 0
 EachJust u [] = Unit {0}
@@ -64,6 +68,24 @@ judged_failed None true b k e = cc
 judged_failed None false true k e = cc
 judged_failed None false false k e = cc
 
+judged_unfinished : (f : Option ℕ) (a b : Bool) → judged f a b ≡ judgement.Unfinished → (f ≡ None) × (a ≡ true)
+judged_unfinished (Some k) a b e = cc
+judged_unfinished None true b e = (refl, refl)
+judged_unfinished None false true e = cc
+judged_unfinished None false false e = cc
+
+unfinished_when : (f : Option ℕ) (a b : Bool) → f ≡ None → a ≡ true → judged f a b ≡ judgement.Unfinished
+unfinished_when f a b e g = rw (e, g)
+
+judged_open : (f : Option ℕ) (a b : Bool) → judged f a b ≡ judgement.Open → (f ≡ None) × (a ≡ false) × (b ≡ true)
+judged_open (Some k) a b e = cc
+judged_open None true b e = cc
+judged_open None false true e = (refl, refl, refl)
+judged_open None false false e = cc
+
+open_when : (f : Option ℕ) (a b : Bool) → f ≡ None → a ≡ false → b ≡ true → judged f a b ≡ judgement.Open
+open_when f a b e g h = rw (e, g, h)
+
 -- as many settlements as paths, none of them open or failed
 passed_through : (u : JUnit) (ss : List Settlement) → (verdict_on u ss).judgement ≡ judgement.Cleared → (path_count u ≤ length ss) × AllPassed ss
 passed_through u ss e =
@@ -74,12 +96,12 @@ module _ (u : JUnit) (tag : ℕ) (ss : List Settlement) (o : Option Slip) (g : G
   passed_each : (verdict_on u ss).judgement ≡ judgement.Cleared → (k : ℕ) → k < path_count u → HasSettled k Passed ss
   passed_each e k l = let p = passed_through u ss e in each_passed ss g.in_order p.1 k (omega (arith, p.0))
 
-  all_through : (n : ℕ) → n ≡ path_count u → ((k : ℕ) → k < n → HasSettled k Passed ss) → n ≤ length ss
-  all_through n e h = ⊎_elim (λ l. let low = has_low ss _ Passed g.in_order (h (length ss) l) in absurd (omega arith)) (λ m. m) (cases_lt (length ss) n)
+  all_through : (n : ℕ) → ((k : ℕ) → k < n → IsSettled k ss) → n ≤ length ss
+  all_through n h = ⊎_elim (λ l. let low = settled_low ss _ g.in_order (h (length ss) l) in absurd (omega arith)) (λ m. m) (cases_lt (length ss) n)
 
   cleared_then : ((k : ℕ) → k < path_count u → HasSettled k Passed ss) → (verdict_on u ss).judgement ≡ judgement.Cleared
   cleared_then h =
-      let full = all_through (path_count u) refl h in
+      let full = all_through (path_count u) (λ k l. (Passed, h k l)) in
       let few = g.few in
       let only = only_passed ss g.in_order (λ k l. h k (omega arith)) in
       cleared_when _ _ _ only.none_failed (le-ltb _ _ full) (le-ltb _ _ (omega (arith, only.none_open)))
@@ -90,16 +112,39 @@ module _ (u : JUnit) (tag : ℕ) (ss : List Settlement) (o : Option Slip) (g : G
     λ h. ap (λ f. judged f (ltb (length ss) (path_count u)) (ltb 0 (how_many Open ss))) (is_first ss k g.in_order (record { has = h.0; least = h.1 })),
   )
 
+  some_left : (k : ℕ) → k < path_count u → (IsSettled k ss → ⊥) → length ss < path_count u
+  some_left k l not = ⊎_elim (λ m. m) (λ m. absurd (not (each_settled ss g.in_order k (omega arith)))) (cases_lt (length ss) (path_count u))
+
+  unfinished : (verdict_on u ss).judgement ≡ judgement.Unfinished ↔ (NoneFailed ss × ((k : ℕ) × (k < path_count u) × (IsSettled k ss → ⊥)))
+  unfinished = (
+    λ e.
+        let j = judged_unfinished (first_failed ss) _ _ e in
+        (none_has_failed ss j.0, (length ss, ltb-true _ _ j.1, λ h. let low = settled_low ss _ g.in_order h in absurd (omega arith))),
+    λ h. unfinished_when _ _ _ (no_first ss g.in_order h.0) (lt-ltb _ _ (some_left h.1.0 h.1.1 h.1.2)),
+  )
+
+  left_open : (verdict_on u ss).judgement ≡ judgement.Open ↔ (NoneFailed ss × ((k : ℕ) → k < path_count u → IsSettled k ss) × ((k : ℕ) × HasSettled k Open ss))
+  left_open = (
+    λ e.
+        let j = judged_open (first_failed ss) (ltb (length ss) (path_count u)) (ltb 0 (how_many Open ss)) e in
+        let full = ltb-false (length ss) (path_count u) j.1 in
+        (none_has_failed ss j.0, λ k l. each_settled ss g.in_order k (omega arith), which_open ss (ltb-true _ _ j.2)),
+    λ h. open_when _ _ _ (no_first ss g.in_order h.0) (le-ltb _ _ (all_through (path_count u) h.1)) (lt-ltb _ _ (some_open ss h.2.0 h.2.1)),
+  )
+
   honest : Sure u → EachJust u ss → Honest u ss (verdict_on u ss)
   honest sure all = record {
     cleared = (passed_each, cleared_then);
     safe = λ e. no_run_fails u sure ss all (passed_each e);
     failed = lowest;
-    counts = (refl, refl, refl);
+    unfinished = unfinished;
+    «open» = left_open;
+    counts = (settled_as Passed ss, settled_as Failed ss, settled_as Open ss);
     all = all_counted ss;
     in_order = g.in_order;
   }
 
+-- ---- takes
 taken_none : (b : Bool) (o : Option Slip) (next : Slip) → taken b o next ≡ Err (refused refusal.Condition) → b ≡ true
 taken_none true o next e = refl
 taken_none false (Some l) next e = let same : refused refusal.SlipOut ≡ refused refusal.Condition = cc in let r = ap (λ (f : SheetFault). f.refusal) same in cc
@@ -111,13 +156,92 @@ none_left n count o next few = (
   λ e. ap (λ b. taken b o next) (le-leb n count (omega arith)),
 )
 
-keeps : (u : JUnit) → Sure u → (tag : ℕ) (h : History) (e : Event) → Happened u tag (e ∷ h) → Keeps u h e
-keeps u sure tag h (took r) x = let g = going u tag h x.1 in subst (λ (s : Result Slip SheetFault). s ≡ Err (refused refusal.Condition) ↔ (length (accepted h) ≡ path_count u)) (sym x.0) (none_left _ _ (out h) _ g.few)
-keeps u sure tag h (settled m l before (Ok o) after) x = (each_just u sure tag (settled m l before (Ok o) after ∷ h) x).0
-keeps u sure tag h (settled m l before (Err e) after) x = tt
-keeps u sure tag h (handed_back l r) x = tt
+taken_out : (b : Bool) (o : Option Slip) (next : Slip) → taken b o next ≡ Err (refused refusal.SlipOut) → (b ≡ false) × ((l : Slip) × (o ≡ Some l))
+taken_out true o next e = let same : refused refusal.Condition ≡ refused refusal.SlipOut = cc in let r = ap (λ (f : SheetFault). f.refusal) same in cc
+taken_out false (Some l) next e = (refl, (l, refl))
+taken_out false None next e = cc
+
+is_none : (o p : Option Slip) → o ≡ p → ((l : Slip) → o ≡ Some l → ⊥) → o ≡ None
+is_none o None e not = e
+is_none o (Some l) e not = absurd (not l e)
+
+module _ (u : JUnit) (tag : ℕ) (h : History) (past : Happened u tag h) where
+  none_is_out : ((l : Slip) → Owed h l → ⊥) → out h ≡ None
+  none_is_out none = is_none (out h) (out h) refl (λ l e. none l (is_owed h l e))
+
+  take_keeps : (r : Result Slip SheetFault) → Step u tag h (took r) → TakeKeeps u tag h r
+  take_keeps r is =
+      let count = length (accepted h) in
+      let left : Bool = leb (path_count u) count in
+      let next : Slip = record { tag = tag; number = count } in
+      let g = going u tag h past in
+      let as_taken : TakeKeeps u tag h (taken left (out h) next) = record {
+        none_left = none_left _ _ (out h) next g.few;
+        one_owed = (
+          λ e. let t = taken_out left (out h) next e in (leb-false _ _ t.0, (t.1.0, is_owed h t.1.0 t.1.1)),
+          λ w. λ i. taken (lt-leb (path_count u) count w.0 i) (is_out u tag h past w.1.0 w.1.1 i) next,
+        );
+        handed_out = λ l. (
+          λ e. let t = taken_ok left (out h) next l (sym e) in (leb-false _ _ t.0, λ k o. none_out left (out h) next l k (sym e) (is_out u tag h past k o), t.1),
+          λ w. (λ i. taken (lt-leb (path_count u) count w.0 i) (none_is_out w.1 i) next) ∙ ap Ok (sym w.2),
+        );
+      } in
+      subst (TakeKeeps u tag h) (sym is) as_taken
+
+  -- ---- slips that come back
+  not_both : (l : Slip) → returned l refusal.Slip ≡ returned l refusal.Buffer → ⊥
+  not_both l e = let r = ap (λ (b : Returned). b.fault.refusal) e in cc
+
+  hand_back_keeps : (l : Slip) (r : Result (Unit {0}) Returned) → Step u tag h (handed_back l r) → HandBackKeeps h l r
+  hand_back_keeps l (Ok w) is = record { not_owed = (λ e. cc, λ n. absurd (n (is_owed h l is))); is_accepted = (λ e. is_owed h l is, λ o. refl) }
+  hand_back_keeps l (Err e) is =
+      let not : Owed h l → ⊥ = λ o. is.0 (is_out u tag h past l o) in
+      record { not_owed = (λ x. not, λ n. ap Err is.1); is_accepted = (λ x. cc, λ o. absurd (not o)) }
+
+  module _ (m : Meaning) (l : Slip) (before after : Held) where
+    settlement_keeps : (r : Result Outcome Returned) → Step u tag h (settled m l before r after)
+        → ((o : Outcome) → r ≡ Ok o → Just u (record { judge = m; number = l.number; outcome = o })) → SettlementKeeps u h m l before r after
+    settlement_keeps (Ok o) is all =
+        let owed = is_owed h l is.1 in
+        record {
+          not_owed = (λ e. cc, λ n. absurd (n owed));
+          short = (λ e. cc, λ w. absurd (w.1 is.2.room));
+          is_accepted = (λ e. (owed, is.2.room), λ w. refl);
+          just = all;
+          as_it_was = λ e. cc;
+        }
+    settlement_keeps (Err e) is all = ⊎_elim
+        (λ s.
+        let not : Owed h l → ⊥ = λ o. s.0 (is_out u tag h past l o) in
+        let other : e ≡ returned l refusal.Buffer → ⊥ = λ x. not_both l (sym s.1 ∙ x) in
+        record {
+          not_owed = (λ x. not, λ n. ap Err s.1);
+          short = (λ x. absurd (other cc), λ w. absurd (not w.0));
+          is_accepted = (λ x. cc, λ w. absurd (not w.0));
+          just = all;
+          as_it_was = λ x. is.1;
+        })
+        (λ s.
+        let owed = is_owed h l s.0 in
+        let other : e ≡ returned l refusal.Slip → ⊥ = λ x. not_both l (sym x ∙ s.2) in
+        record {
+          not_owed = (λ x. absurd (other cc), λ n. absurd (n owed));
+          short = (λ x. (owed, s.1), λ w. ap Err s.2);
+          is_accepted = (λ x. cc, λ w. absurd (s.1 w.1));
+          just = all;
+          as_it_was = λ x. is.1;
+        })
+        is.0
+
+keeps : (u : JUnit) → Sure u → (tag : ℕ) (h : History) (e : Event) → Happened u tag (e ∷ h) → Keeps u tag h e
+keeps u sure tag h (took r) x = take_keeps u tag h x.1 r x.0
+keeps u sure tag h (settled m l before (Ok o) after) x =
+    let now = (each_just u sure tag (settled m l before (Ok o) after ∷ h) x).0 in
+    settlement_keeps u tag h x.1 m l before after (Ok o) x.0 (λ a e. let same : o ≡ a = cc in subst (λ (b : Outcome). Just u (record { judge = m; number = l.number; outcome = b })) same now)
+keeps u sure tag h (settled m l before (Err e) after) x = settlement_keeps u tag h x.1 m l before after (Err e) x.0 (λ a e. cc)
+keeps u sure tag h (handed_back l r) x = hand_back_keeps u tag h x.1 l r x.0
 keeps u sure tag h (told v) x = subst (Honest u (accepted h)) (sym x.0) (honest u tag (accepted h) (out h) (going u tag h x.1) sure (each_just u sure tag h x.1))
 
-pub kept : (u : JUnit) → Sure u → (tag : ℕ) (h : History) → Happened u tag h → Kept u h
+pub kept : (u : JUnit) → Sure u → (tag : ℕ) (h : History) → Happened u tag h → Kept u tag h
 kept u sure tag [] x = tt
 kept u sure tag (e ∷ h) x = (keeps u sure tag h e x, kept u sure tag h x.1)

@@ -1,6 +1,7 @@
 pub mod Going
 pub mod Counting
 pub mod Judging
+pub mod Spending
 pub mod Keeping
 pub mod Stepping
 pub mod Owing

@@ -1,5 +1,5 @@
 -- For callers: a slip that was taken, and comes back from a settlement, can be handed back.
-use Rattle.std.proofs.Common.{◌≡◌, ◌≢◌, ℕ, List, [], ◌∷◌, Some, Ok, Err, sym, refl, ap, ◌∙◌, ⊎_elim}
+use Rattle.std.proofs.Common.{◌≡◌, Some, Ok, Err, sym, refl, ap, ⊎_elim}
 use Rattle.std.proofs.Math.Logic.{∥∥₁_elim}
 use Rattle.checking.specs.CheckedUnits.{said}
 use Rattle.sheets.specs.Settling.{Held}

@@ -47,7 +47,7 @@ tells u tag t v e h c =
 
 pub promised : (e : Examination) (v : Verdict) → Goes (told v) e e → Promised e v
 promised e v next =
-    let kept_by : (u : JUnit) (tag : ℕ) (h : History) → Leads u tag h e → Kept u (told v ∷ h) = λ u tag h l.
+    let kept_by : (u : JUnit) (tag : ℕ) (h : History) → Leads u tag h e → Kept u tag (told v ∷ h) = λ u tag h l.
     kept u (subst Sure l.of_unit (sure_of e.unit)) tag (told v ∷ h) (next u tag h l).comes.happened in
     record {
       kept = kept_by;

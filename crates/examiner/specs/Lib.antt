@@ -1,4 +1,5 @@
 pub mod Histories
+pub mod Owing
 pub mod Steps
 pub mod Promises
 pub mod Tallies

@@ -23,7 +23,7 @@ Goes event before after = (u : JUnit) (tag : ℕ) (h : History) → Leads u tag 
 -- the whole promise
 pub record Promised (e : Examination) (v : Verdict) : Type 0 where
   -- every history that may have led here, with this verdict after it, is kept
-  pub kept : (u : JUnit) (tag : ℕ) (h : History) → Leads u tag h e → Kept u (told v ∷ h)
+  pub kept : (u : JUnit) (tag : ℕ) (h : History) → Leads u tag h e → Kept u tag (told v ∷ h)
   -- some history did lead here, so that a unit that is cleared has no run that fails, with no premise left
   pub lived : ∥ ((h : History) × Leads (said e.unit) e.tag h e) ∥₁
   pub safe : v.judgement ≡ Cleared → Fails (said e.unit) → ⊥

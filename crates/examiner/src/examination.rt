@@ -28,7 +28,7 @@ pub struct Examination<'a> {
 }
 
 impl<'a> Examination<'a> {
-    ghost use Rattle.std.specs.Prelude.{◌↔◌, [], Some, IsTrue};
+    ghost use Rattle.std.specs.Prelude.{◌↔◌, [], Some, IsTrue, OnErr};
     ghost use Rattle.examiner.specs.Histories.{took, settled, handed_back, told, out};
     ghost use Rattle.examiner.specs.Lives.{Leads, Goes, Promised};
     ghost use Rattle.sheets.specs.Settling.{on};
@@ -80,6 +80,7 @@ impl<'a> Examination<'a> {
         desk: &mut Desk<'_>,
     ) -> Result<Outcome, Returned>
         ensures same { J.meaning judge.new ≡ J.meaning judge.old }
+        ensures refused { OnErr result (judge.new ≡ judge.old) }
         ensures lent_rows { desk.new.rows.ghost_name ≡ desk.old.rows.ghost_name }
         ensures lent_parts { desk.new.parts.ghost_name ≡ desk.old.parts.ghost_name }
         ensures lent_cells { desk.new.cells.ghost_name ≡ desk.old.cells.ghost_name }

@@ -1,6 +1,6 @@
 // Settling: one condition written, put to a judge, and what the judge proposes replayed.
 
-ghost use Rattle.std.specs.Prelude.{◌≡◌, ◌≤◌, ◌+◌, Decides, true, length, take, drop};
+ghost use Rattle.std.specs.Prelude.{◌≡◌, ◌≤◌, ◌+◌, Decides, OnErr, true, length, take, drop};
 ghost use Rattle.checking.specs.CheckedUnits.{said};
 ghost use Rattle.sheets.specs.Judges.{has_room};
 ghost use Rattle.sheets.specs.Places.{rows_in, parts_in, cells_in, says, marks_for};
@@ -87,6 +87,7 @@ fn settle_in<J: Judge>(
     working: &mut [Mark],
 ) -> Result<Outcome, SheetFault>
     ensures same { J.meaning judge.new ≡ J.meaning judge.old }
+    ensures refused { OnErr result (judge.new ≡ judge.old) }
     ensures settles { SettlesAt (said unit.now) number (J.meaning judge.old) (held rows.old parts.old cells.old valuation.old working.old) result (held rows.new parts.new cells.new valuation.new working.new) }
 {
     let needed = measure(unit, number)?;
@@ -100,7 +101,7 @@ fn settle_in<J: Judge>(
     Ok(judged(&sheet, judge, valuation, working))
 }
 
-// Settles the condition of a path by a judge, on a desk. A refusal leaves the desk as it was.
+// Settles the condition of a path by a judge, on a desk. A refusal leaves desk and judge as they were.
 pub fn settle<J: Judge>(
     unit: &CheckedUnit<'_>,
     number: usize,
@@ -108,6 +109,7 @@ pub fn settle<J: Judge>(
     desk: &mut Desk<'_>,
 ) -> Result<Outcome, SheetFault>
     ensures same { J.meaning judge.new ≡ J.meaning judge.old }
+    ensures refused { OnErr result (judge.new ≡ judge.old) }
     ensures lent_rows { desk.new.rows.ghost_name ≡ desk.old.rows.ghost_name }
     ensures lent_parts { desk.new.parts.ghost_name ≡ desk.old.parts.ghost_name }
     ensures lent_cells { desk.new.cells.ghost_name ≡ desk.old.cells.ghost_name }

@@ -1,9 +1,8 @@
-use Rattle.std.proofs.Common.{◌≡◌, ◌<◌, false, Ok, Err, sym, refl, ap, ◌∙◌, subst, arith, rules}
+use Rattle.std.proofs.Common.{refl, ap, arith, rules}
 use Rattle.checking.specs.CheckedUnits.{said}
 use Rattle.sheets.specs.Settling.{on}
 use Rattle.examiner.specs.declared.tally.Tally.{Tally}
-use Rattle.examiner.specs.Histories.{settled}
-use Rattle.examiner.specs.Tallies.{total, IsDue, counted}
+use Rattle.examiner.specs.Tallies.{total, IsDue}
 use Rattle.examiner.proofs.Stepping.{few_paths, reached_by, goes_by, one_more, strange, accepted_as, short}
 use Rattle.examiner.proofs.examination.Examination.settle.Goals as goal
 
