@@ -9,3 +9,6 @@ pub mod Entries
 pub mod Wording
 pub mod Writing
 pub mod Spelling
+pub mod Depths
+pub mod Keeping
+pub mod Checking

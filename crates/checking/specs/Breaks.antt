@@ -59,7 +59,7 @@ BreaksRule u refusal.Slip i = ⊥
 BreaksRule u refusal.Buffer i = ⊥
 BreaksRule u refusal.Valuation i = ⊥
 
--- the tables are none that reading leaves, or the unit that they hold breaks a rule
+-- the tables break a rule of reading, or the unit that they hold breaks one of its own
 abbrev pub Breaks : List ℕ → Span → Tables → Refusal → ℕ → Type 0
 Breaks bytes name t r i = ((r ≡ refusal.Tables) × (i ≡ 0) × (Readable bytes name t → ⊥)) ⊎ BreaksRule (unit_of bytes name t) r i
 
@@ -67,13 +67,20 @@ Breaks bytes name t r i = ((r ≡ refusal.Tables) × (i ≡ 0) × (Readable byte
 abbrev pub Earlier : Refusal → ℕ → Refusal → ℕ → Type 0
 Earlier q j r i = (number_of q < number_of r) ⊎ ((number_of q ≡ number_of r) × (j < i))
 
+-- none of them is broken anywhere
+abbrev pub NoneOf : (Refusal → ℕ → Type 0) → Type 0
+NoneOf Broken = (r : Refusal) (i : ℕ) → Broken r i → ⊥
+
 -- the lowest rule that is broken, at its lowest place
+abbrev pub FirstOf : (Refusal → ℕ → Type 0) → CheckFault → Type 0
+FirstOf Broken (Reading f) = ⊥
+FirstOf Broken (Rule r i) = Broken r i × ((q : Refusal) (j : ℕ) → Earlier q j r i → Broken q j → ⊥)
+
 abbrev pub FirstBroken : List ℕ → Span → Tables → CheckFault → Type 0
-FirstBroken bytes name t (Reading f) = ⊥
-FirstBroken bytes name t (Rule r i) = Breaks bytes name t r i × ((q : Refusal) (j : ℕ) → Earlier q j r i → Breaks bytes name t q j → ⊥)
+FirstBroken bytes name t = FirstOf (Breaks bytes name t)
 
 abbrev pub Unbroken : List ℕ → Span → Tables → Type 0
-Unbroken bytes name t = (r : Refusal) (i : ℕ) → Breaks bytes name t r i → ⊥
+Unbroken bytes name t = NoneOf (Breaks bytes name t)
 
 -- what a check tells of tables: that nothing is broken, or what is broken first
 abbrev pub Checks : {A : Type 0} → List ℕ → Span → Tables → Result A CheckFault → Type 0

@@ -12,4 +12,4 @@ pub mod Breaks
 pub mod Steps
 pub mod Held
 pub mod CheckedUnits
-pub mod ReadChecks
+pub mod Readings

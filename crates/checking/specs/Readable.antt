@@ -15,7 +15,7 @@ use Rattle.checking.specs.Tests.{apart}
 abbrev pub sentences_in : Tables → List (Sentence Span)
 sentences_in t = map (sentence_in t.rows) t.statements
 
--- the tables are those that reading leaves of a unit with this name, in these bytes
+-- the tables hold a unit with this name, whose names and texts stand in these bytes, and it keeps the rules of reading
 pub record Readable (bytes : List ℕ) (name : Span) (t : Tables) : Type 0 where
   -- each record is what reading makes of its statement, and the row table holds the statements' rows and nothing else
   pub laid : t.statements ≡ laid_all 0 (sentences_in t)

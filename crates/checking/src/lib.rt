@@ -2,7 +2,6 @@
 #![tactic(auto)]
 
 mod apart;
-pub mod checked;
 pub mod fault;
 pub mod kinding;
 mod kinds;

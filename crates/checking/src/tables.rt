@@ -93,7 +93,7 @@ impl UnitTables<'_> {
                 .is_none()
     }
 
-    // Whether they are those that reading leaves of a unit with this name.
+    // Whether they keep the rules of reading.
     pub(super) fn are_readable(&self) -> bool
         ensures { result ≡ readable self.now.bytes.now self.now.name (held self.now) }
     {

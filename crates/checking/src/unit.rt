@@ -58,6 +58,7 @@ static HOUSE_ROWS: [UnitRow; 1] = [Row::Operator(Operator::False)];
 
 impl<'a> CheckedUnit<'a> {
     ghost use Rattle.checking.specs.CheckedUnits.{said, house, Fills};
+    ghost use Rattle.checking.specs.Readings.{ChecksRead};
 
     pub fn house() -> CheckedUnit<'a>
         ensures { said result ≡ house }
@@ -86,7 +87,8 @@ impl<'a> CheckedUnit<'a> {
         statements: &'a [Statement],
         rows: &'a [UnitRow],
     ) -> Result<(), CheckFault>
-        ensures { Fills bytes.now name (held_in variables.now statements.now rows.now) self.old result self.new }
+        ensures fills { Fills bytes.now name (held_in variables.now statements.now rows.now) self.old result self.new }
+        ensures read { ChecksRead bytes.now name (held_in variables.now statements.now rows.now) result self.new }
     {
         let tables = UnitTables {
             bytes,

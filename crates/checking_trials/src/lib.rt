@@ -10,6 +10,8 @@ mod limits;
 #[cfg(test)]
 mod paths;
 #[cfg(test)]
+mod reading;
+#[cfg(test)]
 mod rules;
 #[cfg(test)]
 mod tables;

@@ -1,8 +1,9 @@
 // Units that break a rule, with its number and the statement that is told.
 
-use checking::checked::{Checked, read_and_check};
 use checking::fault::CheckFault;
+use checking::unit::CheckedUnit;
 use jcode::mention::{ROW_LIMIT, UnitRow};
+use jcode::reader::{Outline, read};
 use jcode::refusal::{ReadFault, Refusal};
 use jcode::statement::{STATEMENT_LIMIT, Statement};
 use jcode::variable::{VARIABLE_LIMIT, Variable};
@@ -452,12 +453,31 @@ static REFUSED: [(&'static [u8], u8, usize); 81] = [
     ),
 ];
 
-// What is told of the unit at the front of the bytes.
+// What is told of a unit that was read and passed its check.
+#[derive(Clone, Copy, Debug, PartialEq, Eq)]
+pub(super) struct Checked {
+    pub(super) outline: Outline,
+    pub(super) paths: usize,
+}
+
+// Reads the unit at a place of the bytes into tables of the limits, and checks it.
 pub(super) fn attempt(bytes: &[u8], start: usize) -> Result<Checked, CheckFault> {
     let mut variables = [Variable::default(); VARIABLE_LIMIT];
     let mut statements = [Statement::default(); STATEMENT_LIMIT];
     let mut rows: [UnitRow; ROW_LIMIT] = [Row::Constant(0); ROW_LIMIT];
-    read_and_check(bytes, start, &mut variables, &mut statements, &mut rows)
+    let outline = read(bytes, start, &mut variables, &mut statements, &mut rows)?;
+    let mut unit = CheckedUnit::house();
+    unit.check(
+        bytes,
+        outline.name,
+        &variables[..outline.variables.min(VARIABLE_LIMIT)],
+        &statements[..outline.statements.min(STATEMENT_LIMIT)],
+        &rows[..outline.rows.min(ROW_LIMIT)],
+    )?;
+    Ok(Checked {
+        outline,
+        paths: unit.paths(),
+    })
 }
 
 pub(super) fn refuses(rt: &impl Abort, bytes: &[u8], number: u8, place: usize) -> Result<(), Fail> {

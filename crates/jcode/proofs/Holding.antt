@@ -30,7 +30,7 @@ module _ (rows : List UnitRow) where
   sentence_held used (Branch t l) before after n is = refl
   sentence_held used (Join l) before after n is = refl
 
-  all_held : (used : ℕ) (ss : List (Sentence Span)) (before : List UnitRow) → length before ≡ used → rows ≡ before ++ rows_all ss → map (sentence_in rows) (laid_all used ss) ≡ ss
+  pub all_held : (used : ℕ) (ss : List (Sentence Span)) (before : List UnitRow) → length before ≡ used → rows ≡ before ++ rows_all ss → map (sentence_in rows) (laid_all used ss) ≡ ss
   all_held used [] before n is = refl
   all_held used (s ∷ ss) before n is =
       let rest = all_held (used + length (rows_of s)) ss (before ++ rows_of s) (omega (arith, length-append before (rows_of s))) (is ∙ sym (append_assoc before (rows_of s) (rows_all ss))) in

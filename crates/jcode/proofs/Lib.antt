@@ -34,3 +34,4 @@ pub mod Fairness
 pub mod Outgrowing
 pub mod Unique
 pub mod Accepting
+pub mod Within
