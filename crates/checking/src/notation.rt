@@ -3,6 +3,6 @@
 ghost use Rattle.checking.specs.Spelled.{ReadableIsSpelled};
 
 // Tables that keep the rules of reading hold a unit that the notation allows: some bytes spell it, within the limits.
-pub fn readable_stands()
+pub fn rule_six_stands()
     ensures { ReadableIsSpelled }
 {}
