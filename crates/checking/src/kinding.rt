@@ -1,6 +1,6 @@
 // Kinding: the kind of a term, from the kinds of what it mentions.
 
-ghost use Rattle.std.specs.Prelude.{◌≡◌, length, if◌then◌else◌, None, nat_le};
+ghost use Rattle.std.specs.Prelude.{◌≡◌, ◌-◌, length, take, if◌then◌else◌, None, nat_le};
 ghost use Rattle.terms.specs.Terms.{entries_for};
 ghost use Rattle.reckoning.specs.Kinds.{asked, is_kind, kind_given, kinds, kind_of};
 
@@ -77,13 +77,14 @@ impl<'a, M: Copy, K: Mentions<M, Kind>> Interpretation<M, Option<Kind>> for Kind
     }
 }
 
-// The kind of a term, `None` if an operator stands before operands of other kinds, or if there are fewer lent entries than reading the rows takes.
+// The kind of a term, `None` if an operator stands before operands of other kinds, or if there are fewer lent entries than reading the rows takes. All but the last of them that reading takes stay.
 pub fn kind_of<M: Copy, K: Mentions<M, Kind>>(
     mentions: &K,
     rows: &[Row<M>],
     stack: &mut [Option<Kind>],
 ) -> Option<Kind>
-    ensures { result ≡ (if nat_le (entries_for rows.now) (length stack.old) then kind_of (K.found mentions.now) rows.now else None) }
+    ensures kind { result ≡ (if nat_le (entries_for rows.now) (length stack.old) then kind_of (K.found mentions.now) rows.now else None) }
+    ensures others { take (length stack.old - entries_for rows.now) stack.new ≡ take (length stack.old - entries_for rows.now) stack.old }
 {
     newest(&Kinding { mentions }, rows, stack)
 }

@@ -1,6 +1,6 @@
 // Nesting: which rows write one complete term, and how deep it nests.
 
-ghost use Rattle.std.specs.Prelude.{◌≡◌, ℕ, ◌&&◌, length, nat_le};
+ghost use Rattle.std.specs.Prelude.{◌≡◌, ℕ, ◌-◌, ◌&&◌, length, take, nat_le};
 ghost use Rattle.terms.specs.Terms.{entries_for};
 ghost use Rattle.checking.specs.Nesting.{deeper as deeper_of, deepest as deepest_of, raised, nesting, single, writes_term};
 
@@ -78,9 +78,10 @@ fn is_single(stack: &[Option<usize>]) -> bool
     matches!(stack, [Some(_)])
 }
 
-// Whether the rows write exactly one term with nesting up to the limit. With fewer lent entries than reading them takes it says no.
+// Whether the rows write exactly one term with nesting up to the limit. With fewer lent entries than reading them takes it says no. All but the last of them that reading takes stay.
 pub fn writes_term<M: Copy>(limit: usize, rows: &[Row<M>], depths: &mut [Option<usize>]) -> bool
-    ensures { result ≡ (nat_le (entries_for rows.now) (length depths.old) && writes_term limit rows.now) }
+    ensures term { result ≡ (nat_le (entries_for rows.now) (length depths.old) && writes_term limit rows.now) }
+    ensures others { take (length depths.old - entries_for rows.now) depths.new ≡ take (length depths.old - entries_for rows.now) depths.old }
 {
     fold(&Nesting { limit }, rows, depths).is_some_and(|top| is_single(&depths[top..]))
 }

@@ -11,27 +11,36 @@ use terms::kind::Kind;
 use terms::operator::Operator;
 use terms::row::Row;
 
-// Whether b, a number from 0 to 9, its truth c, and d, which is set to b + 1.
-const CELLS: [Cell; 3] = [
-    Cell {
-        kind: Kind::Number,
-        low: 0,
-        high: 9,
-        set_by: None,
-    },
-    Cell {
-        kind: Kind::Truth,
-        low: 0,
-        high: 1,
-        set_by: None,
-    },
-    Cell {
-        kind: Kind::Number,
-        low: -20,
-        high: 20,
-        set_by: Some(0),
-    },
-];
+// The number b, the truth c, the number d, which is set to b + 1, and one that nothing mentions, so that its bounds can be wrong and all else right.
+const B: Cell = Cell {
+    kind: Kind::Number,
+    low: 0,
+    high: 9,
+    set_by: None,
+};
+
+const C: Cell = Cell {
+    kind: Kind::Truth,
+    low: 0,
+    high: 1,
+    set_by: None,
+};
+
+const D: Cell = Cell {
+    kind: Kind::Number,
+    low: -20,
+    high: 20,
+    set_by: Some(0),
+};
+
+const IDLE: Cell = Cell {
+    kind: Kind::Number,
+    low: -5,
+    high: 5,
+    set_by: None,
+};
+
+const CELLS: [Cell; 3] = [B, C, D];
 
 // (equal! d (addi! b 1)), c, (lti! d 9)
 const ROWS: [CellRow; 9] = [
@@ -52,144 +61,214 @@ const PARTS: [Part; 3] = [
     Part { first: 6, rows: 3 },
 ];
 
-fn fills(rows: &[CellRow], parts: &[Part], cells: &[Cell]) -> bool {
-    Sheet::unfilled().fill(rows, parts, cells).is_ok()
+// Other tables: with one row changed, other parts, one cell changed, none of these, or one part that nests so deep.
+enum Change {
+    Row(usize, CellRow),
+    Parts(&'static [Part]),
+    Cell(usize, Cell),
+    Whole(&'static [CellRow], &'static [Part], &'static [Cell]),
+    Nested(usize),
 }
 
-// The fault of a place that is told these tables, if it stays as it was.
-fn kept(rows: &[CellRow], parts: &[Part], cells: &[Cell]) -> Option<SheetFault> {
+// What a place tells that is given tables, and whether it stays as it was.
+fn told(rows: &[CellRow], parts: &[Part], cells: &[Cell]) -> (Result<(), SheetFault>, bool) {
     let mut sheet = Sheet::unfilled();
-    let fault = sheet.fill(rows, parts, cells).err()?;
-    (sheet == Sheet::unfilled()).then_some(fault)
+    let told = sheet.fill(rows, parts, cells);
+    (told, sheet == Sheet::unfilled())
 }
 
-fn row_changed(place: usize, row: CellRow) -> bool {
+fn told_rows(place: usize, row: CellRow) -> (Result<(), SheetFault>, bool) {
     let mut rows = ROWS;
     if place < 9 {
         rows[place] = row;
     }
-    fills(&rows, &PARTS, &CELLS)
+    told(&rows, &PARTS, &CELLS)
 }
 
-fn part_changed(place: usize, part: Part) -> bool {
-    let mut parts = PARTS;
-    if place < 3 {
-        parts[place] = part;
-    }
-    fills(&ROWS, &parts, &CELLS)
-}
-
-fn cell_changed(place: usize, cell: Cell) -> bool {
-    let mut cells = CELLS;
-    if place < 3 {
+fn told_cells(place: usize, cell: Cell) -> (Result<(), SheetFault>, bool) {
+    let mut cells = [B, C, D, IDLE];
+    if place < 4 {
         cells[place] = cell;
     }
-    fills(&ROWS, &PARTS, &cells)
+    told(&ROWS, &PARTS, &cells)
 }
+
+// Each level is the first operand of `if!`, which takes the most entries to read.
+fn told_nested(levels: usize) -> (Result<(), SheetFault>, bool) {
+    let operators = levels.saturating_sub(1).min(33);
+    let mut rows = [Row::Mention(1); 100];
+    for row in rows.iter_mut().take(operators) {
+        *row = Row::Operator(Operator::If);
+    }
+    let count = 3 * operators + 1;
+    let part = Part {
+        first: 0,
+        rows: count,
+    };
+    told(&rows[..count], &[part], &CELLS[..2])
+}
+
+impl Change {
+    fn told(&self) -> (Result<(), SheetFault>, bool) {
+        match self {
+            Change::Row(place, row) => told_rows(*place, *row),
+            Change::Parts(parts) => told(&ROWS, parts, &CELLS),
+            Change::Cell(place, cell) => told_cells(*place, *cell),
+            Change::Whole(rows, parts, cells) => told(rows, parts, cells),
+            Change::Nested(levels) => told_nested(*levels),
+        }
+    }
+}
+
+static GOOD: [Change; 9] = [
+    Change::Row(4, Row::Constant(1)),
+    Change::Row(4, Row::Constant(2)),
+    Change::Row(3, Row::Mention(0)),
+    Change::Cell(0, Cell { low: 9, ..B }),
+    Change::Cell(
+        3,
+        Cell {
+            low: -2_000_000_000,
+            high: 2_000_000_000,
+            ..IDLE
+        },
+    ),
+    Change::Cell(1, Cell { low: 1, ..C }),
+    Change::Cell(2, Cell { set_by: None, ..D }),
+    Change::Nested(1),
+    Change::Nested(33),
+];
+
+// Each rule of sheets broken once, and by all else kept.
+static BROKEN: [(&'static str, Change); 22] = [
+    ("no part", Change::Whole(&[], &[], &[])),
+    (
+        "rows left over",
+        Change::Parts(&[Part { first: 0, rows: 5 }, Part { first: 5, rows: 1 }]),
+    ),
+    (
+        "a row between parts",
+        Change::Parts(&[Part { first: 0, rows: 5 }, Part { first: 6, rows: 3 }]),
+    ),
+    (
+        "rows of two parts",
+        Change::Parts(&[
+            Part { first: 0, rows: 5 },
+            Part { first: 5, rows: 1 },
+            Part { first: 6, rows: 3 },
+            Part { first: 5, rows: 1 },
+        ]),
+    ),
+    (
+        "a part past the rows",
+        Change::Parts(&[
+            Part { first: 0, rows: 5 },
+            Part { first: 5, rows: 1 },
+            Part {
+                first: 6,
+                rows: usize::MAX,
+            },
+        ]),
+    ),
+    (
+        "an incomplete term",
+        Change::Row(8, Row::Operator(Operator::Addi)),
+    ),
+    (
+        "two terms",
+        Change::Parts(&[Part { first: 0, rows: 6 }, Part { first: 6, rows: 3 }]),
+    ),
+    ("no truth", Change::Row(5, Row::Mention(0))),
+    ("operands of another kind", Change::Row(8, Row::Mention(1))),
+    ("no such cell", Change::Row(5, Row::Mention(3))),
+    ("nesting 34", Change::Nested(34)),
+    (
+        "a low below the span",
+        Change::Cell(
+            3,
+            Cell {
+                low: -2_000_000_001,
+                ..IDLE
+            },
+        ),
+    ),
+    (
+        "a high past the span",
+        Change::Cell(
+            3,
+            Cell {
+                high: 2_000_000_001,
+                ..IDLE
+            },
+        ),
+    ),
+    (
+        "a truth's low below 0",
+        Change::Cell(1, Cell { low: -1, ..C }),
+    ),
+    (
+        "a truth's high past 1",
+        Change::Cell(1, Cell { high: 2, ..C }),
+    ),
+    ("low above high", Change::Cell(3, Cell { low: 6, ..IDLE })),
+    (
+        "set by no `equal!`",
+        Change::Row(0, Row::Operator(Operator::Notequal)),
+    ),
+    (
+        "set by the `equal!` of another cell",
+        Change::Row(1, Row::Mention(0)),
+    ),
+    ("set to a term over itself", Change::Row(3, Row::Mention(2))),
+    (
+        "set by the goal",
+        Change::Whole(
+            &[
+                Row::Operator(Operator::Equal),
+                Row::Mention(0),
+                Row::Constant(1),
+            ],
+            &[Part { first: 0, rows: 3 }],
+            &[Cell {
+                kind: Kind::Number,
+                low: 0,
+                high: 9,
+                set_by: Some(0),
+            }],
+        ),
+    ),
+    (
+        "set by no part",
+        Change::Cell(
+            3,
+            Cell {
+                set_by: Some(3),
+                ..IDLE
+            },
+        ),
+    ),
+    (
+        "the range mark 'any'",
+        Change::Row(4, Row::Constant(2_000_000_000)),
+    ),
+];
 
 #[test]
 fn good_tables_are_taken(rt: HostRuntime) {
-    assert!(rt; fills(&ROWS, &PARTS, &CELLS));
-    assert!(rt; fills(&ROWS[5..6], &PARTS[..0], &CELLS) == false);
-    assert!(rt;
-        kept(&ROWS[..5], &PARTS, &CELLS)
-            == Some(SheetFault {
-                refusal: Refusal::Tables,
-                place: 0
-            })
-    );
+    for change in GOOD.iter() {
+        assert!(rt; change.told() == (Ok(()), false));
+    }
 }
 
 #[test]
-fn rows_that_break_a_rule(rt: HostRuntime) {
-    // One that stays good.
-    assert!(rt; row_changed(4, Row::Constant(2)));
-    // No truth, kinds wrong, no cell, two terms, out of the span, not of its cell, over its own cell.
-    assert!(rt; !row_changed(5, Row::Constant(1)));
-    assert!(rt; !row_changed(3, Row::Mention(1)));
-    assert!(rt; !row_changed(5, Row::Mention(3)));
-    assert!(rt; !row_changed(6, Row::Constant(1)));
-    assert!(rt; !row_changed(4, Row::Constant(2_000_000_000)));
-    assert!(rt; !row_changed(1, Row::Mention(0)));
-    assert!(rt; !row_changed(3, Row::Mention(2)));
-}
-
-#[test]
-fn parts_that_break_a_rule(rt: HostRuntime) {
-    assert!(rt; part_changed(1, Part { first: 5, rows: 1 }));
-    assert!(rt; !part_changed(1, Part { first: 4, rows: 1 }));
-    assert!(rt; !part_changed(2, Part { first: 6, rows: 2 }));
-    assert!(rt; !part_changed(2, Part { first: 6, rows: 4 }));
-    assert!(rt;
-        !part_changed(
-            0,
-            Part {
-                first: 0,
-                rows: usize::MAX
-            }
-        )
-    );
-}
-
-#[test]
-fn cells_that_break_a_rule(rt: HostRuntime) {
-    let number = CELLS[0];
-    assert!(rt; cell_changed(0, Cell { low: 9, ..number }));
-    assert!(rt; !cell_changed(0, Cell { low: 10, ..number }));
-    assert!(rt;
-        !cell_changed(
-            0,
-            Cell {
-                high: 2_000_000_001,
-                ..number
-            }
-        )
-    );
-    assert!(rt;
-        !cell_changed(
-            1,
-            Cell {
-                high: 2,
-                ..CELLS[1]
-            }
-        )
-    );
-    assert!(rt;
-        !cell_changed(
-            1,
-            Cell {
-                kind: Kind::Number,
-                ..CELLS[1]
-            }
-        )
-    );
-    assert!(rt;
-        !cell_changed(
-            2,
-            Cell {
-                set_by: Some(1),
-                ..CELLS[2]
-            }
-        )
-    );
-    assert!(rt;
-        !cell_changed(
-            2,
-            Cell {
-                set_by: Some(3),
-                ..CELLS[2]
-            }
-        )
-    );
-    assert!(rt;
-        !cell_changed(
-            0,
-            Cell {
-                set_by: Some(0),
-                ..number
-            }
-        )
-    );
+fn tables_that_break_a_rule_are_refused(rt: HostRuntime) {
+    let fault = SheetFault {
+        refusal: Refusal::Tables,
+        place: 0,
+    };
+    for (rule, change) in BROKEN.iter() {
+        assert!(rt; change.told() == (Err(fault), true), "{rule}");
+    }
 }
 
 // The replay of a valuation over so many working marks.
@@ -227,25 +306,4 @@ fn a_sheet_tells_its_parts(rt: HostRuntime) {
     assert!(rt; sheet.cell_set_by(1) == None);
     assert!(rt; sheet.cell_set_by(3) == None);
     assert!(rt; sheet.marks() == 12);
-}
-
-// Whether a place takes one part that nests so deep, each level the first operand of `if!`, which takes the most entries to read.
-fn nested(levels: usize) -> bool {
-    let operators = levels.saturating_sub(1).min(33);
-    let mut rows = [Row::Mention(1); 100];
-    for row in rows.iter_mut().take(operators) {
-        *row = Row::Operator(Operator::If);
-    }
-    let part = Part {
-        first: 0,
-        rows: 3 * operators + 1,
-    };
-    fills(&rows[..3 * operators + 1], &[part], &CELLS[..2])
-}
-
-#[test]
-fn nesting_goes_to_its_limit(rt: HostRuntime) {
-    assert!(rt; nested(1));
-    assert!(rt; nested(33));
-    assert!(rt; !nested(34));
 }

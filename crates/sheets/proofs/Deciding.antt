@@ -1,5 +1,5 @@
 -- A path's sheet, written where there is room and put to a judge.
-use Rattle.std.proofs.Common.{◌≡◌, ℕ, ◌+◌, ◌<◌, ◌≤◌, List, length, take, drop, Some, None, Option, ℤ, inr, sym, ap, ◌∙◌, subst, length-append, arith}
+use Rattle.std.proofs.Common.{◌≡◌, ℕ, ◌+◌, ◌<◌, ◌≤◌, List, length, take, drop, Some, None, Option, Ok, Err, Result, IfOk, ℤ, inr, refl, sym, ap, ◌∙◌, subst, length-append, arith}
 use Rattle.std.proofs.Math.Seq.{take-append_seam}
 use Rattle.terms.specs.declared.row.Row.{Row}
 use Rattle.flow.specs.Numbers.{paths, nth}
@@ -13,17 +13,18 @@ use Rattle.checking.specs.Breaks.{steps_of}
 use Rattle.checking.specs.CheckedUnits.{said}
 use Rattle.checking.specs.Held.{held as tables_held}
 use Rattle.sheets.specs.declared.cell.Cell.{Cell}
+use Rattle.sheets.specs.declared.fault.SheetFault.{SheetFault}
 use Rattle.sheets.specs.declared.outcome.Outcome.{Outcome}
 use Rattle.sheets.specs.declared.part.Part.{Part}
 use Rattle.sheets.specs.declared.sheet.Sheet.{Sheet}
 use Rattle.sheets.specs.declared.writing.Lengths.{Lengths}
-use Rattle.sheets.specs.Drafts.{Drafts, lengths_of}
+use Rattle.sheets.specs.Drafts.{Drafts, WritesSheet, lengths_of}
 use Rattle.sheets.specs.Judges.{Opinion}
 use Rattle.sheets.specs.PathSheets.{rows_of, laid_from}
 use Rattle.sheets.specs.Places.{rows_in, parts_in, cells_in, says}
 use Rattle.sheets.specs.Settling.{Written, Settles, Settled, condition, held}
 use Rattle.sheets.specs.Sheets.{Condition, Keeps, condition_of}
-use Rattle.sheets.specs.Standing.{Stands}
+use Rattle.sheets.specs.Standing.{Stands, FillsWith, StandsFor}
 use Rattle.sheets.specs.Tables.{IsSheet}
 use Rattle.sheets.proofs.Joining.{length_laid}
 use Rattle.sheets.proofs.Keeping.{keeps_rules}
@@ -113,3 +114,17 @@ module _ (u : CheckedUnit) (k : ℕ) (there : k < length (paths (steps_of (said 
         rest = subst (λ m. drop m v_after ≡ drop m v) (ap length (q ∙ front_cells)) rest;
         working = long;
       }
+
+    fills_with : FillsWith c (take n.rows rows_after) (take n.parts parts_after) (take n.cells cells_after)
+    fills_with (Ok x) before after filled = (refl, says_it after filled.1 filled.2 filled.3)
+    fills_with (Err e) before after filled = absurd (filled.0 stands.sheet)
+
+    pub stands_for : StandsFor c n rows_after parts_after cells_after
+    stands_for = record { stands = stands; fills = fills_with }
+
+-- what a call wrote fills a sheet's place
+pub written_stands : (u : CheckedUnit) (k : ℕ) (rows : List (Row ℕ)) (parts : List Part) (cells : List Cell) (r : Result Lengths SheetFault) (rows_after : List (Row ℕ)) (parts_after : List Part) (cells_after : List Cell)
+    → WritesSheet (said u) k rows parts cells r rows_after parts_after cells_after → IfOk r (λ n. StandsFor (condition (said u) k) n rows_after parts_after cells_after)
+written_stands u k rows parts cells (Ok n) rows_after parts_after cells_after w =
+    stands_for u k w.0 n w.2 rows parts cells w.1 rows_after parts_after cells_after (record { rows_are = w.3; parts_are = w.4; cells_are = w.5 })
+written_stands u k rows parts cells (Err f) rows_after parts_after cells_after w = tt

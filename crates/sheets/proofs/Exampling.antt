@@ -10,7 +10,7 @@ use Rattle.flow.specs.Paths.{Path}
 use Rattle.flow.specs.Steps.{at, is_break}
 use Rattle.flow.specs.declared.step.Step.TheVariants as step
 use Rattle.flow.proofs.Leading.{never}
-use Rattle.jcode.specs.ReadStatements.{read_single, read_again, read_repeated, read_text_end}
+use Rattle.jcode.specs.ReadStatements.{read_unseen, read_names, read_listing, read_single, read_again, read_repeated, read_text_end}
 use Rattle.jcode.specs.ReadTerms.{read_begin, read_close}
 use Rattle.jcode.specs.ReadUnits.{read_unit, read_high, read_bounds, read_domain, read_colon, read_class, read_closing, read_declared, read_fresh, read_entry, read_sentence, read_finish, read_heading}
 use Rattle.jcode.specs.Sentences.{Hang}
@@ -22,7 +22,7 @@ use Rattle.sheets.specs.Runs.{sentence, are_of, types_at, Reaches, starts, goes,
 use Rattle.sheets.specs.PathSheets.{sheet_of}
 use Rattle.sheets.specs.Valuations.{Falsifies}
 use Rattle.sheets.specs.Matches.{terms_kept, Sensible}
-use Rattle.sheets.specs.PathExamples.{limit, limit_text, room, Tells, second, second_sheet, past, unchosen, Examples}
+use Rattle.sheets.specs.PathExamples.{limit, limit_text, room, room_for, order, order_text, Tells, second, second_sheet, past, unchosen, Examples}
 use Rattle.sheets.proofs.Parts.{equals}
 use Rattle.sheets.proofs.Fitting.{all_at}
 use Rattle.sheets.proofs.Running.{matches}
@@ -104,6 +104,10 @@ limit_is_read : Tells limit_text (read_unit room limit_text 0) limit
 unfolding read_single read_again read_repeated read_text_end read_begin read_close read_high read_bounds read_domain read_colon read_class read_closing read_declared read_fresh read_entry read_sentence read_finish read_heading
 limit_is_read = (refl, refl)
 
+order_is_read : Tells order_text (read_unit (room_for 2 4 12) order_text 0) order
+unfolding read_unseen read_names read_listing read_single read_again read_repeated read_text_end read_begin read_close read_high read_bounds read_domain read_colon read_class read_closing read_declared read_fresh read_entry read_sentence read_finish read_heading
+order_is_read = (refl, refl)
+
 pub examples : Examples
 examples = record {
   limit_is_read = limit_is_read;
@@ -117,6 +121,9 @@ examples = record {
   raised_has = refl;
   raised_is = refl;
   raised_falsified = (refl, (refl, (refl, refl)));
+  order_is_read = order_is_read;
+  order_is = refl;
+  order_falsified = (refl, (refl, refl));
   proclaim_helps_not = (3, pos 0 ∷ pos 0 ∷ [], goes [] (starts {i = 2} refl refl) (record { acts = record { typed = refl; demanded = tt; after = refl }; next = (omega arith, refl); admitted = tt }), refl);
   no_path_on = λ h. h.1.2.1 refl;
   assign_ends = assign_ends;

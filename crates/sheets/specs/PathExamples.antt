@@ -1,7 +1,7 @@
 -- Worked examples of sheets and runs, and what false readings would make of them.
 use Rattle.std.specs.Prelude.{◌≡◌, ℕ, List, [], ◌∷◌, length, replicate, codes, ℤ, pos, Some, None, Option}
 use Rattle.terms.specs.declared.kind.Kind.TheVariants.{Number, Truth}
-use Rattle.terms.specs.declared.operator.Operator.TheVariants.{Addi, Gei, Lei, Lti, True, False, Equal}
+use Rattle.terms.specs.declared.operator.Operator.TheVariants.{Addi, Gei, Lei, Lti, True, False, And, Implies, Equal}
 use Rattle.terms.specs.declared.row.Row.{Row}
 use Rattle.terms.specs.declared.row.Row.TheVariants.{Constant, Mention as Mentioned, Operator}
 use Rattle.flow.specs.Numbers.{paths}
@@ -9,7 +9,7 @@ use Rattle.flow.specs.Paths.{Path}
 use Rattle.jcode.specs.declared.mention.Aspect.TheVariants.{Value, Shadow}
 use Rattle.jcode.specs.declared.mention.Mention.{Mention}
 use Rattle.jcode.specs.declared.mention.Stage.TheVariants.{Current, New as Given}
-use Rattle.jcode.specs.declared.variable.Domain.TheVariants.{Integer, Subrange}
+use Rattle.jcode.specs.declared.variable.Domain.TheVariants.{Integer, Boolean, Subrange}
 use Rattle.jcode.specs.Sentences.{Sentence, Hang, Break, Require, Proclaim, New, Assign, Split, When}
 use Rattle.jcode.specs.Units.{Declared, JUnit, unit_in}
 use Rattle.jcode.specs.Pieces.{Answer, got, refused}
@@ -61,12 +61,15 @@ abbrev pub limit_text : List ℕ
 limit_text =
     codes "BEGIN Limit\np : (variable (subrange 0 9))\nBREAK (/entry/)\nREQUIRE (gei! (p) (consti! 0)) (/low/)\nPROCLAIM (lei! (p) (consti! 7))\nASSIGN (p) (p) (true!) (addi! (p) (consti! 1))\nREQUIRE (lti! (p) (consti! 8)) (/high/)\nHANG\nEND\n"
 
-abbrev pub room : Tables
-room = record {
-  variables = replicate 1 (record { name = record { start = 0; length = 0 }; domain = Integer });
-  statements = replicate 6 stands.Hang;
-  rows = replicate 13 (Constant (pos 0));
+abbrev pub room_for : ℕ → ℕ → ℕ → Tables
+room_for variables statements rows = record {
+  variables = replicate variables (record { name = record { start = 0; length = 0 }; domain = Integer });
+  statements = replicate statements stands.Hang;
+  rows = replicate rows (Constant (pos 0));
 }
+
+abbrev pub room : Tables
+room = room_for 1 6 13
 
 -- what is read from the bytes is this unit, and nothing is left of them
 abbrev pub Tells : List ℕ → Answer Located → JUnit → Type 0
@@ -82,6 +85,10 @@ p_cell by = record { kind = Number; low = pos 0; high = pos 9; set_by = by }
 
 abbrev pub shadow_cell : Option ℕ → Cell
 shadow_cell by = record { kind = Truth; low = pos 0; high = pos 1; set_by = by }
+
+-- one for the value of a truth
+abbrev pub truth_cell : Cell
+truth_cell = shadow_cell None
 
 abbrev pub second_sheet : Condition
 second_sheet = record {
@@ -124,6 +131,51 @@ raised_sheet = record {
   cells = p_cell None ∷ shadow_cell None ∷ p_cell None ∷ shadow_cell None ∷ [];
 }
 
+-- p and a truth q, to which a NEW gives new values, q listed first
+abbrev pub flag : Declared
+flag = record { name = codes "q"; domain = Boolean }
+
+abbrev pub q : Row Mention
+q = Mentioned (record { variable = 1; aspect = Value; stage = Current })
+
+abbrev pub new_q : Row Mention
+new_q = Mentioned (record { variable = 1; aspect = Value; stage = Given })
+
+abbrev pub defined_new_q : Row Mention
+defined_new_q = Mentioned (record { variable = 1; aspect = Shadow; stage = Given })
+
+abbrev pub order : JUnit
+order = record {
+  name = codes "Order";
+  variables = digit ∷ flag ∷ [];
+  statements =
+      Break (codes "entry")
+      ∷ New (1 ∷ 0 ∷ []) (Operator And ∷ new_q ∷ Operator And ∷ defined_new_q ∷ Operator Lti ∷ new_p ∷ p ∷ []) (codes "lower")
+      ∷ Require (Operator Implies ∷ q ∷ Operator Gei ∷ p ∷ Constant (pos 1) ∷ []) (codes "high")
+      ∷ Hang
+      ∷ [];
+}
+
+abbrev pub order_text : List ℕ
+order_text =
+    codes "BEGIN Order\np : (variable (subrange 0 9))\nq : (variable (boolean))\nBREAK (/entry/)\nNEW (q p) (and! (new! q) (and! (defined! new! q) (lti! (new! p) (p)))) (/lower/)\nREQUIRE (implies! (q) (gei! (p) (consti! 1))) (/high/)\nHANG\nEND\n"
+
+abbrev pub order_path : List ℕ
+order_path = 0 ∷ 1 ∷ 2 ∷ []
+
+-- cells 0 to 3 are those of the start, 4 and 5 those that the NEW adds for q, 6 and 7 those for p
+abbrev pub order_sheet : Condition
+order_sheet = record {
+  parts =
+      (Operator And ∷ Mentioned 4 ∷ Operator And ∷ Mentioned 5 ∷ Operator Lti ∷ Mentioned 6 ∷ Mentioned 0 ∷ [])
+      ∷ (Operator Implies ∷ Mentioned 4 ∷ Operator Gei ∷ Mentioned 6 ∷ Constant (pos 1) ∷ [])
+      ∷ [];
+  cells =
+      p_cell None ∷ shadow_cell None ∷ truth_cell ∷ shadow_cell None
+      ∷ truth_cell ∷ shadow_cell None ∷ p_cell None ∷ shadow_cell None
+      ∷ [];
+}
+
 -- a PROCLAIM ahead of a BREAK
 abbrev pub twice : JUnit
 twice = unit_with (Break [] ∷ Proclaim is_false ∷ Break [] ∷ Require is_false [] ∷ Hang ∷ [])
@@ -149,6 +201,10 @@ pub record Examples : Type 0 where
   pub raised_has : paths (steps_of raised) ≡ raised_path ∷ []
   pub raised_is : sheet_of raised raised_path ≡ raised_sheet
   pub raised_falsified : Falsifies raised_sheet (pos 0 ∷ pos 0 ∷ pos 1 ∷ pos 1 ∷ [])
+  -- a NEW adds cells in the order of its list
+  pub order_is_read : Tells order_text (read_unit (room_for 2 4 12) order_text 0) order
+  pub order_is : sheet_of order order_path ≡ order_sheet
+  pub order_falsified : Falsifies order_sheet (pos 3 ∷ pos 0 ∷ pos 0 ∷ pos 0 ∷ pos 1 ∷ pos 1 ∷ pos 0 ∷ pos 0 ∷ [])
   -- a PROCLAIM ahead of a BREAK does not help a later REQUIRE: no path goes through a second BREAK, and a run starts at it
   pub proclaim_helps_not : Fails twice
   pub no_path_on : Path (steps_of twice) (0 ∷ 1 ∷ 2 ∷ 3 ∷ []) → ⊥

@@ -28,7 +28,7 @@ pub struct Sheet<'a> {
 impl<'a> Sheet<'a> {
     ghost use Rattle.sheets.specs.Places.{rows_in, parts_in, cells_in, says, marks_for, false_alone, Filled};
     ghost use Rattle.sheets.specs.Tables.{IsSheet};
-    ghost use Rattle.sheets.specs.Sheets.{part, is_some_of, set_by, cell_set};
+    ghost use Rattle.sheets.specs.Sheets.{Keeps, fills_from, part, is_some_of, set_by, cell_set};
 
     // `false!` alone, until tables fill it.
     pub fn unfilled() -> Sheet<'a>
@@ -70,6 +70,12 @@ impl<'a> Sheet<'a> {
             tables: Tables { rows, parts, cells },
         }
     }
+
+    // Every sheet keeps the rules, whoever filled it.
+    pub fn rules_stand(&self)
+        ensures filled { fills_from (length (rows_in self.now)) 0 (parts_in self.now) }
+        ensures kept { Keeps (says self.now) }
+    {}
 
     pub fn rows(&self) -> &'a [CellRow]
         ensures { result.now ≡ rows_in self.now }

@@ -1,9 +1,11 @@
 // Writing: the sheet of a path in lent buffers.
 
-ghost use Rattle.std.specs.Prelude.{◌≡◌, ◌≤◌, Decides};
+ghost use Rattle.std.specs.Prelude.{◌≡◌, ◌≤◌, Decides, IfOk};
 ghost use Rattle.checking.specs.CheckedUnits.{said};
 ghost use Rattle.sheets.specs.Matches.{Matches, SheetsKeep};
 ghost use Rattle.sheets.specs.Drafts.{Drafts, Measures, WritesSheet};
+ghost use Rattle.sheets.specs.Settling.{condition};
+ghost use Rattle.sheets.specs.Standing.{StandsFor};
 
 use super::cell::{Cell, CellRow};
 use super::fault::SheetFault;
@@ -69,7 +71,7 @@ fn whole(
     draft(unit, number, rows, parts, cells).ok_or(Refusal::Condition.into())
 }
 
-// Writes the sheet of a path to the front of the buffers, and tells how long it is. The sheets of a checked unit keep the rules of sheets, and say what its runs do.
+// Writes the sheet of a path to the front of the buffers, and tells how long it is. What it wrote fills the place of a sheet, which then says the path's condition. The sheets of a checked unit keep the rules of sheets, and say what its runs do.
 pub fn write(
     unit: &CheckedUnit<'_>,
     number: usize,
@@ -78,6 +80,7 @@ pub fn write(
     cells: &mut [Cell],
 ) -> Result<Lengths, SheetFault>
     ensures writes { WritesSheet (said unit.now) number rows.old parts.old cells.old result rows.new parts.new cells.new }
+    ensures fills { IfOk result (λ n. StandsFor (condition (said unit.now) number) n rows.new parts.new cells.new) }
     ensures keep { SheetsKeep (said unit.now) }
     ensures runs { Matches (said unit.now) }
 {
