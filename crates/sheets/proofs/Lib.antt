@@ -3,6 +3,7 @@ pub mod Storing
 pub mod Typing
 pub mod Parts
 pub mod Matching
+pub mod Passing
 pub mod Running
 pub mod Numbered
 pub mod Extending

@@ -1,14 +1,15 @@
 -- Numbers of their types, and within the bounds of cells.
 use Rattle.std.proofs.Common.{◌≡◌, ℕ, suc, ◌*◌, true, ◌&&◌, List, [], ◌∷◌, ◌++◌, map, length, ℤ, None, refl, ap, ◌∙◌, arith}
 use Rattle.std.proofs.lemmas.Bool.{and_parts, and_from}
+use Rattle.std.proofs.lemmas.List.{length-map}
 use Rattle.reckoning.specs.Ranges.{between, within}
 use Rattle.flow.proofs.Leading.{never}
 use Rattle.jcode.specs.declared.variable.Domain.{Domain}
 use Rattle.jcode.specs.Sentences.{Sentence, New}
 use Rattle.jcode.specs.Units.{JUnit}
-use Rattle.checking.specs.Types.{domain_bounds}
+use Rattle.checking.specs.Types.{domains, domain_bounds}
 use Rattle.sheets.specs.declared.cell.Cell.{Cell}
-use Rattle.sheets.specs.Runs.{are_of, with_shadows, types_at, listed}
+use Rattle.sheets.specs.Runs.{are_of, with_shadows, types_at, Fitting, listed}
 use Rattle.sheets.specs.PathSheets.{Progress, cell_of, cells_of}
 use Rattle.sheets.specs.Valuations.{is_within}
 
@@ -85,3 +86,9 @@ length-with_shadows (d ∷ ds) = omega (arith, length-with_shadows ds)
 pub length-types_at : (u : JUnit) (vs : List ℕ) → length (types_at u vs) ≡ 2 * length vs
 length-types_at u [] = refl
 length-types_at u (v ∷ vs) = omega (arith, length-types_at u vs)
+
+pub length-domains : (u : JUnit) → length (domains u) ≡ length u.variables
+length-domains u = length-map u.variables (λ d. d.domain)
+
+pub length-fitting : (u : JUnit) (s : List ℤ) → Fitting u s → length s ≡ 2 * length u.variables
+length-fitting u s h = length-are_of (with_shadows (domains u)) s h ∙ length-with_shadows (domains u) ∙ ap (λ n. 2 * n) (length-domains u)

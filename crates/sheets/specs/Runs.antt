@@ -140,12 +140,27 @@ FailsAt (Join l) s = ⊥
 abbrev pub Fails : JUnit → Type 0
 Fails u = (i : ℕ) × (s : List ℤ) × Reaches u i s × FailsAt (sentence u i) s
 
--- the run from the store s along exactly these places, whose statements give the numbers `given` in turn, comes to the last one, where `Ends` holds
-abbrev pub RunsAlong : (Sentence (List ℕ) → List ℤ → Type 0) → JUnit → List ℕ → List ℤ → List ℤ → Type 0
-RunsAlong Ends u [] s given = ⊥
-RunsAlong Ends u (i ∷ []) s given = (given ≡ []) × Ends (sentence u i) s
-RunsAlong Ends u (i ∷ j ∷ p) s given =
-    (now : List ℤ) × (later : List ℤ) × (t : List ℤ) × (given ≡ now ++ later) × Goes u i j now s t × RunsAlong Ends u (j ∷ p) t later
+-- the run from the store s along exactly these places: it comes to the later ones with the stores `through` in turn, and its statements give the numbers `given` in turn
+abbrev pub RunsThrough : JUnit → List ℕ → List ℤ → List (List ℤ) → List ℤ → Type 0
+RunsThrough u [] s through given = ⊥
+RunsThrough u (i ∷ []) s [] given = given ≡ []
+RunsThrough u (i ∷ []) s (t ∷ through) given = ⊥
+RunsThrough u (i ∷ j ∷ p) s [] given = ⊥
+RunsThrough u (i ∷ j ∷ p) s (t ∷ through) given =
+    (now : List ℤ) × (later : List ℤ) × (given ≡ now ++ later) × Goes u i j now s t × RunsThrough u (j ∷ p) t through later
+
+-- the last of a list, and x where there is none
+abbrev pub last : {X : Type 0} → X → List X → X
+last x [] = x
+last x (y ∷ ys) = last y ys
+
+-- and comes to the last place with the store t
+abbrev pub ComesAlong : JUnit → List ℕ → List ℤ → List ℤ → List ℤ → Type 0
+ComesAlong u p s given t = (through : List (List ℤ)) × RunsThrough u p s through given × (last s through ≡ t)
+
+-- and fails there
+abbrev pub FailsThrough : JUnit → List ℕ → List ℤ → List (List ℤ) → List ℤ → Type 0
+FailsThrough u p s through given = RunsThrough u p s through given × FailsAt (sentence u (last 0 p)) (last s through)
 
 abbrev pub FailsAlong : JUnit → List ℕ → List ℤ → List ℤ → Type 0
-FailsAlong = RunsAlong FailsAt
+FailsAlong u p s given = (through : List (List ℤ)) × FailsThrough u p s through given
