@@ -7,7 +7,7 @@ use Rattle.std.proofs.lemmas.Bool.{le-leb, lt-leb, cases_lt}
 use Rattle.reckoning.specs.declared.mark.Mark.{Mark}
 use Rattle.judges.specs.Tries.{gap, ways}
 
-ways_some : (rs : List Mark) → 0 < ways rs
+pub ways_some : (rs : List Mark) → 0 < ways rs
 ways_some [] = omega arith
 ways_some (r ∷ rs) = let one : 1 ≤ gap r.low r.high + 1 = omega arith in omega (arith, mul-le-mul one (ways_some rs))
 

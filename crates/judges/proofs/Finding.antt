@@ -9,8 +9,8 @@ use Rattle.reckoning.specs.Comparing.{is_most}
 use Rattle.sheets.specs.declared.cell.Cell.{Cell}
 use Rattle.sheets.specs.Sheets.{Condition, is_bound, is_bounded, Keeps}
 use Rattle.sheets.specs.Valuations.{Within, allows}
-use Rattle.judges.specs.Tries.{occurs, top, range_of, ranges, is_refuted}
-use Rattle.judges.specs.Walks.{Try, walk, first, no_range, later, left, turning, Turned, Followed}
+use Rattle.judges.specs.Tries.{occurs, top, range_of, ranges, Try, tries_from, first, is_refuted}
+use Rattle.judges.specs.Walks.{no_range, later, left, turning, Turned, Followed}
 use Rattle.judges.specs.Ranging.{no_cell}
 use Rattle.judges.specs.Keeping.{at_each, within_at, within_length}
 use Rattle.judges.proofs.Opening.{range_at}
@@ -19,8 +19,8 @@ use Rattle.judges.proofs.Walking.{completes, passed_by, turns}
 
 -- the first of all is the first of those that are left, from the place that comes next
 abbrev pub Going : Condition → Option ℕ → List ℤ → Type 0
-Going s None v = first s (walk s s.cells []) ≡ None
-Going s (Some from) v = (from ≤ length s.cells) × (first s (walk s s.cells []) ≡ first s (left s (ranges s.parts 0 s.cells) from v))
+Going s None v = first s (tries_from s s.cells []) ≡ None
+Going s (Some from) v = (from ≤ length s.cells) × (first s (tries_from s s.cells []) ≡ first s (left s (ranges s.parts 0 s.cells) from v))
 
 -- how many tries are left
 abbrev pub to_go : Condition → Option ℕ → List ℤ → ℕ
@@ -58,7 +58,7 @@ module _ (s : Condition) (keeps : Keeps s) (v w : List ℤ) (from place : ℕ) (
   long = within_length s.cells w within
 
   -- the valuation that is refuted is the first
-  pub found : place ≡ length s.cells → is_refuted w s.parts ≡ true → first s (walk s s.cells []) ≡ Some w
+  pub found : place ≡ length s.cells → is_refuted w s.parts ≡ true → first s (tries_from s s.cells []) ≡ Some w
   found whole refuted =
       going.1 ∙ ap (first s) (sym followed.kept ∙ ap (λ k. left s rs k w) whole ∙ completes s rs w long) ∙ ap (λ b. cond b (Some w) (first s (later s rs (length s.cells) w))) refuted
 

@@ -10,3 +10,4 @@ mod Refuting
 mod Turning
 mod Following
 mod Telling
+mod Settling

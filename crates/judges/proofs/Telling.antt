@@ -9,9 +9,7 @@ use Rattle.sheets.specs.declared.judge.Answer.TheVariants.{Pass, Fail}
 use Rattle.sheets.specs.Sheets.{Condition, is_bound, is_bounded}
 use Rattle.sheets.specs.Valuations.{Within, allows}
 use Rattle.sheets.specs.Judges.{Told}
-use Rattle.judges.specs.Tries.{ranges, ways, proposed, trier}
-use Rattle.judges.specs.Walks.{walk, first}
-use Rattle.judges.proofs.Walking.{first_walk}
+use Rattle.judges.specs.Tries.{ranges, ways, tries_from, first, proposed, trier}
 
 -- the lows of cells are within their bounds
 pub within_lows : (cs : List Cell) → list_all is_bounded cs ≡ true → Within cs (map (λ c. c.low) cs)
@@ -23,11 +21,11 @@ within_lows (c ∷ cs) h =
     and_from (allows c c.low) _ least (within_lows cs t.1)
 
 module _ (s : Condition) (few : nat_le (ways (ranges s.parts 0 s.cells)) 65536 ≡ true) where
-  tried : (o : Option (List ℤ)) → first s (walk s s.cells []) ≡ o → trier s ≡ proposed o
-  tried o e = cond-true _ _ _ few ∙ ap proposed (sym (first_walk s s.cells []) ∙ e)
+  tried : (o : Option (List ℤ)) → first s (tries_from s s.cells []) ≡ o → trier s ≡ proposed o
+  tried o e = cond-true _ _ _ few ∙ ap proposed e
 
-  pub told_found : (w : List ℤ) → length w ≡ length s.cells → first s (walk s s.cells []) ≡ Some w → Told (length s.cells) (trier s) Fail w
+  pub told_found : (w : List ℤ) → length w ≡ length s.cells → first s (tries_from s s.cells []) ≡ Some w → Told (length s.cells) (trier s) Fail w
   told_found w long e = subst (λ o. Told (length s.cells) o Fail w) (sym (tried (Some w) e)) (refl, refl, long)
 
-  pub told_none : (zeros : List ℤ) → zeros ≡ replicate (length s.cells) (pos 0) → first s (walk s s.cells []) ≡ None → Told (length s.cells) (trier s) Pass zeros
+  pub told_none : (zeros : List ℤ) → zeros ≡ replicate (length s.cells) (pos 0) → first s (tries_from s s.cells []) ≡ None → Told (length s.cells) (trier s) Pass zeros
   told_none zeros is e = subst (λ o. Told (length s.cells) o Pass zeros) (sym (tried None e)) (refl, is)

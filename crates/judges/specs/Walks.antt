@@ -6,26 +6,7 @@ use Rattle.reckoning.specs.declared.mark.Mark.{Mark}
 use Rattle.sheets.specs.declared.cell.Cell.{Cell}
 use Rattle.sheets.specs.Sheets.{Condition, part, setting_term}
 use Rattle.sheets.specs.Valuations.{cell_in, allows}
-use Rattle.judges.specs.Tries.{occurs, above, top, ranges, is_refuted}
-
--- a try with all its numbers, or none where a set cell leaves its bounds
-abbrev pub Try : Type 0
-Try = Option (List ℤ)
-
-abbrev pub next_from : (List ℤ → List Try) → Condition → Option ℕ → Cell → List ℤ → List Try
-next_from go s None c lower = flat_map (λ n. go (lower ++ n ∷ [])) (c.low ∷ above c.low (top (occurs s.parts (length lower)) None c))
-next_from go s (Some p) c lower = cond (allows c (value (cell_in lower) (setting_term (part s p)))) (go (lower ++ value (cell_in lower) (setting_term (part s p)) ∷ [])) (None ∷ [])
-
--- the tries that begin with the numbers of the lower cells, those among them that end early
-abbrev pub walk : Condition → List Cell → List ℤ → List Try
-walk s [] lower = Some lower ∷ []
-walk s (c ∷ cs) lower = next_from (walk s cs) s c.set_by c lower
-
--- the first try that is refuted
-abbrev pub first : Condition → List Try → Option (List ℤ)
-first s [] = None
-first s (None ∷ ts) = first s ts
-first s (Some v ∷ ts) = cond (is_refuted v s.parts) (Some v) (first s ts)
+use Rattle.judges.specs.Tries.{Try, tries_from, above, ranges}
 
 abbrev pub no_range : Mark
 no_range = record { low = pos 0; high = pos 0 }
@@ -38,11 +19,11 @@ module _ (s : Condition) (rs : List Mark) where
   -- the tries that come when those with these numbers of the first i cells are done
   abbrev pub later : ℕ → List ℤ → List Try
   later zero v = []
-  later (suc i) v = flat_map (λ n. walk s (drop (i + 1) s.cells) (take i v ++ n ∷ [])) (rest (slice_index_or rs i no_range) (slice_index_or v i (pos 0))) ++ later i v
+  later (suc i) v = flat_map (λ n. tries_from s (drop (i + 1) s.cells) (take i v ++ n ∷ [])) (rest (slice_index_or rs i no_range) (slice_index_or v i (pos 0))) ++ later i v
 
   -- the tries that are left where the first i cells have these numbers
   abbrev pub left : ℕ → List ℤ → List Try
-  left i v = walk s (drop i s.cells) (take i v) ++ later i v
+  left i v = tries_from s (drop i s.cells) (take i v) ++ later i v
 
 -- the number that a cell begins with after those of the lower cells, none where a set cell leaves its bounds
 abbrev pub begun : Condition → Option ℕ → Cell → List ℤ → Option ℤ

@@ -5,9 +5,9 @@ ghost use Rattle.std.specs.Bool.{OnTrue, OnFalse};
 ghost use Rattle.sheets.specs.Sheets.{set_by};
 ghost use Rattle.sheets.specs.Places.{cells_in, rows_in, says};
 ghost use Rattle.sheets.specs.Valuations.{Within};
-ghost use Rattle.judges.specs.Tries.{is_refuted as is_refuted_of, ranges as ranges_of};
+ghost use Rattle.judges.specs.Tries.{first, is_refuted as is_refuted_of, ranges as ranges_of, tries_from};
 ghost use Rattle.judges.specs.Ranging.{no_cell};
-ghost use Rattle.judges.specs.Walks.{walk, first, begun, is_open, stepped, turning, Turned, Followed};
+ghost use Rattle.judges.specs.Walks.{begun, is_open, stepped, turning, Turned, Followed};
 
 use super::number::number_of;
 use reckoning::mark::Mark;
@@ -116,8 +116,8 @@ pub(super) fn find(
     requires within { Within (cells_in sheet.now) valuation.old }
     requires room { length (rows_in sheet.now) ≤ length stack.old }
     requires ranges { ranges.now ≡ ranges_of (says sheet.now).parts 0 (cells_in sheet.now) }
-    ensures found { result ≡ true → first (says sheet.now) (walk (says sheet.now) (cells_in sheet.now) []) ≡ Some valuation.new }
-    ensures none { result ≡ false → first (says sheet.now) (walk (says sheet.now) (cells_in sheet.now) []) ≡ None }
+    ensures found { result ≡ true → first (says sheet.now) (tries_from (says sheet.now) (cells_in sheet.now) []) ≡ Some valuation.new }
+    ensures none { result ≡ false → first (says sheet.now) (tries_from (says sheet.now) (cells_in sheet.now) []) ≡ None }
 {
     let mut next = Some(0);
     while let Some(from) = next {

@@ -1,4 +1,4 @@
-use Rattle.judges.specs.Trying.{trier_settles}
+use Rattle.judges.proofs.Settling.{trier_settles}
 use Rattle.judges.proofs.trier.trier_stands.Goals as goal
 
 pub returns : goal.returns
