@@ -1,7 +1,7 @@
 #!/usr/bin/env python3
 """Brings this repository's own definitions and lemmas to today's spelling: words in snake case, facts as types.
 
-usage: python3 tools/respell.py        once, at the top, right after the toolchain's own port script, before any edit by hand
+History: it was run once, at the top, on 26 November 2026, right after the toolchain's own port script and before any edit by hand; 34af52c is what both made.
 
 It goes by whole names, in the .antt and .rt files below crates/ (there outside strings) and, between backticks, in README.md and docs/.
 A name of NAMES is written in snake case; OTHERS has those that would fall together with another name, and a fact that was not spelled as a type.
