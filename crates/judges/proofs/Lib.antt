@@ -10,3 +10,5 @@ mod Refuting
 mod Turning
 mod Following
 mod Telling
+mod Reaching
+mod Relaying
