@@ -1,5 +1,5 @@
 #!/usr/bin/env python3
-"""Candidate places of older forms in src/, point by point: places.py [COMMIT] [-l]
+"""Candidate places of older forms in src/, point by point, as DESIGN-PASS.md counts them on 26 November 2026: places.py [COMMIT] [-l], at the top of the repository
 
 Prints how many lines of crates/*/src/*.rt a pattern finds for each point, by crate, and with -l the lines.
 For twins it compares the shapes of function bodies, and for facts the clauses that stand word for word in three contracts or more.

@@ -6,6 +6,8 @@ mod answers;
 #[cfg(test)]
 mod doubles;
 #[cfg(test)]
+mod passes;
+#[cfg(test)]
 mod relays;
 #[cfg(test)]
 mod tables;

@@ -3,7 +3,7 @@
 use super::doubles::{Counted, Zero};
 use super::tables::{PRESSED, asked, pressed, pressures};
 use judges::pass::Pass;
-use judges::relay::Relay;
+use judges::relay::{Relay, relay_stands};
 use judges::trier::Trier;
 use reckoning::points::Points;
 use reckoning::ranges::Ranges;
@@ -43,4 +43,5 @@ fn nonsense_is_passed_on(rt: HostRuntime) {
     };
     let nonsense = asked(&mut judge, &pressed(9), &PRESSED, &pressures());
     assert!(rt; nonsense == Some((Answer::Fail, [0, 0, 0, 0])));
+    relay_stands(&judge);
 }

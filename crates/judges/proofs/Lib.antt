@@ -11,3 +11,5 @@ mod Turning
 mod Following
 mod Telling
 mod Settling
+mod Reaching
+mod Relaying

@@ -1,5 +1,5 @@
 -- The pass: what a reckoning finds of a sheet, part by part.
-use Rattle.std.specs.Prelude.{◌≡◌, ℕ, ◌+◌, List, [], ◌∷◌, map, Some, None, Option, slice_index_or, slice_set}
+use Rattle.std.specs.Prelude.{◌≡◌, ◌≢◌, ◌↔◌, ℕ, ◌+◌, ◌<◌, List, [], ◌∷◌, length, map, Some, None, Option, slice_index_or, slice_set}
 use Rattle.std.specs.List.{slice_get}
 use Rattle.std.specs.Option.{option_map}
 use Rattle.reckoning.specs.declared.mark.Mark.{Mark}
@@ -8,7 +8,7 @@ use Rattle.reckoning.specs.declared.decision.Decision.TheVariants.{Yes, No, Unkn
 use Rattle.reckoning.specs.Reckonings.{Meaning}
 use Rattle.reckoning.specs.Evaluation.{mark_of}
 use Rattle.sheets.specs.declared.cell.Cell.{Cell}
-use Rattle.sheets.specs.Sheets.{CellTerm, Condition, cell_set, setting_term}
+use Rattle.sheets.specs.Sheets.{CellTerm, Condition, part, set_by, cell_set, setting_term, Keeps}
 use Rattle.sheets.specs.declared.judge.Answer.{Answer}
 use Rattle.sheets.specs.declared.judge.Answer.TheVariants.{Pass, Fail, Unsure}
 use Rattle.sheets.specs.Judges.{Opinion, passed, failed, unsure}
@@ -60,3 +60,36 @@ pass_from r c p (e ∷ f ∷ es) marks = pass_or (after_part r (cell_set c p) e 
 
 abbrev pub pass : Meaning → Condition → Opinion
 pass r c = pass_from r c 0 c.parts (map (bounds_mark r) c.cells)
+
+-- When a sheet passes, told of its parts and cells alone.
+
+-- part p sets cell i, and of these marks the cell's and that of the term which it is set to meet in this, or in nothing
+pub record Meets (r : Meaning) (c : Condition) (p i : ℕ) (marks : List Mark) (met : Option Mark) : Type 0 where
+  pub sets : set_by c.cells i ≡ Some p
+  pub mark : Mark
+  pub here : slice_get marks i ≡ Some mark
+  pub meet : r.met mark (mark_of r (slice_get marks) (setting_term (part c p))) ≡ met
+
+-- part p is not the goal, and sets no cell
+abbrev pub Asks : Condition → ℕ → Type 0
+Asks c p = (p + 1 < length c.parts) × ((i : ℕ) → set_by c.cells i ≢ Some p)
+
+-- part p is reached with these marks of the cells
+pub data Comes (r : Meaning) (c : Condition) : ℕ → List Mark → Type 0 where
+  -- the first part with those of the bounds
+  begins : Comes r c 0 (map (λ cell. r.bounded cell.low cell.high) c.cells)
+  -- past a part that sets a cell the meet is that cell's mark, and the other cells keep theirs
+  narrows : {p i : ℕ} {marks : List Mark} {met : Mark} → Comes r c p marks → Meets r c p i marks (Some met) → Comes r c (p + 1) (slice_set marks i met)
+  -- past any other part but the goal all cells keep theirs
+  keeps : {p : ℕ} {marks : List Mark} → Comes r c p marks → Asks c p → Comes r c (p + 1) marks
+
+-- a sheet passes by a meet that is nothing, by a part that is decided 'no', or by the goal, decided 'yes'
+pub data Passes (r : Meaning) (c : Condition) : Type 0 where
+  by_nothing : {p i : ℕ} {marks : List Mark} → Comes r c p marks → Meets r c p i marks None → Passes r c
+  by_no : {p : ℕ} {marks : List Mark} → Comes r c p marks → Asks c p → r.decided (mark_of r (slice_get marks) (part c p)) ≡ No → Passes r c
+  by_yes : {p : ℕ} {marks : List Mark} → Comes r c p marks → p + 1 ≡ length c.parts → r.decided (mark_of r (slice_get marks) (part c p)) ≡ Yes → Passes r c
+
+-- what a judge means that goes part by part: it passes exactly those sheets, and is unsure of every other, so it fails none
+pub record PartByPart (r : Meaning) (meaning : Condition → Opinion) : Type 0 where
+  pub passes : (c : Condition) → Keeps c → meaning c ≡ passed ↔ Passes r c
+  pub others : (c : Condition) → Keeps c → (Passes r c → ⊥) → meaning c ≡ unsure

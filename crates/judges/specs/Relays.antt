@@ -1,5 +1,5 @@
 -- The relay: two judges, of whom the second is asked where the first is unsure.
-use Rattle.std.specs.Prelude.{◌≡◌, ℕ}
+use Rattle.std.specs.Prelude.{◌≡◌, ◌≢◌, ℕ}
 use Rattle.std.proofs.Common.{arith}
 use Rattle.sheets.specs.Sheets.{Condition}
 use Rattle.sheets.specs.Judges.{Opinion, passed, failed, unsure, Sound}
@@ -9,6 +9,11 @@ abbrev pub relayed : Opinion → Opinion → Opinion
 relayed passed second = passed
 relayed (failed v) second = failed v
 relayed unsure second = second
+
+-- what a judge means that relays: what its first does, unless that is unsure, then what its second does
+pub record Relays (first second meaning : Condition → Opinion) : Type 0 where
+  pub by_first : (c : Condition) → first c ≢ unsure → meaning c ≡ first c
+  pub by_second : (c : Condition) → first c ≡ unsure → meaning c ≡ second c
 
 passed_by : {X : Type 0} (a b : Opinion) → relayed a b ≡ passed → (a ≡ passed → X) → (b ≡ passed → X) → X
 passed_by passed b e f g = f e

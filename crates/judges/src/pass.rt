@@ -2,7 +2,7 @@
 
 ghost use Rattle.std.specs.Prelude.{◌≡◌, ◌<◌, ◌≤◌, length, map, Some};
 ghost use Rattle.sheets.specs.Places.{cells_in, rows_in, says};
-ghost use Rattle.judges.specs.Passes.{bounds_mark, marked, after_part, Left, by_goal, answer_of, pass as passes, pass_from};
+ghost use Rattle.judges.specs.Passes.{bounds_mark, marked, after_part, Left, by_goal, answer_of, pass as passes, pass_from, PartByPart};
 ghost use Rattle.judges.specs.Passing.{pass_sound};
 
 use reckoning::decision::Decision;
@@ -128,3 +128,8 @@ impl<R: Reckoning> Judge for Pass<R> {
         self.settle(sheet, marks, stack)
     }
 }
+
+// It passes a sheet exactly if, part by part from the marks of the bounds, a meet is nothing, another part but the goal is decided 'no', or the goal 'yes'; it is unsure of every other.
+pub fn pass_stands<R: Reckoning>(pass: &Pass<R>)
+    ensures { PartByPart (R.meaning pass.now.reckoning) (⟦<Pass<R> as Judge>⟧.meaning pass.now) }
+{}

@@ -1,6 +1,6 @@
 // Relays: one judge after another.
 
-ghost use Rattle.judges.specs.Relays.{relayed, relay_sound};
+ghost use Rattle.judges.specs.Relays.{relayed, relay_sound, Relays};
 
 use reckoning::mark::Mark;
 use sheets::judge::{Answer, Judge};
@@ -25,3 +25,8 @@ impl<A: Judge, B: Judge> Judge for Relay<A, B> {
         }
     }
 }
+
+// It answers what its first judge does, unless that is unsure, and then what its second does.
+pub fn relay_stands<A: Judge, B: Judge>(relay: &Relay<A, B>)
+    ensures { Relays (A.meaning relay.now.first) (B.meaning relay.now.second) (⟦<Relay<A, B> as Judge>⟧.meaning relay.now) }
+{}
