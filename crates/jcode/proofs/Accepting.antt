@@ -3,6 +3,8 @@ use Rattle.std.proofs.Common.{◌≡◌, ℕ, ◌<◌, List, length, Ok, Err, Re
 use Rattle.jcode.specs.declared.reader.Outline.{Outline}
 use Rattle.jcode.specs.declared.refusal.ReadFault.{ReadFault}
 use Rattle.jcode.specs.declared.refusal.Refusal.TheVariants.{Table}
+use Rattle.jcode.specs.declared.refusal.Layer.TheVariants.{Reading}
+use Rattle.jcode.specs.Refusals.{layer_of}
 use Rattle.jcode.specs.Bytes.{separator, slice}
 use Rattle.jcode.specs.Language.{◌⊙◌, Spelt}
 use Rattle.jcode.specs.Spelling.{Heading, Declarations, Statements, scope_with, Spells, Within}
@@ -19,6 +21,7 @@ use Rattle.jcode.proofs.Saying.{all_rows_told}
 use Rattle.jcode.proofs.Whole.{unit_agrees, unit_ends}
 use Rattle.jcode.proofs.Holding.{held_whole}
 use Rattle.jcode.proofs.Outgrowing.{unit_outgrows}
+use Rattle.jcode.proofs.Layers.{unit_layered}
 use Rattle.jcode.proofs.Unique.{one_unit}
 
 -- what an answer was, by what is told of it
@@ -102,3 +105,6 @@ accepts bytes start before result after told left = record {
   refused = refuses bytes start before result after told left;
   outgrown = outgrown bytes start before result after told left;
 }
+
+pub refuses_reading : (bytes : List ℕ) (start : ℕ) (before : Tables) (result : Result Outline ReadFault) → result ≡ answered (read_unit before bytes start) → (f : ReadFault) → result ≡ Err f → layer_of f.refusal ≡ Reading
+refuses_reading bytes start before result told f e = (unit_layered bytes before start).layer f (answered_err (read_unit before bytes start) f (sym told ∙ e))

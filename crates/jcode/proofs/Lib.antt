@@ -31,6 +31,7 @@ pub mod Declaring
 pub mod Whole
 pub mod Holding
 pub mod Fairness
+pub mod Layers
 pub mod Outgrowing
 pub mod Unique
 pub mod Accepting

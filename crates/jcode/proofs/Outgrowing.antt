@@ -12,23 +12,25 @@ use Rattle.jcode.specs.declared.span.Span.{Span}
 use Rattle.jcode.specs.declared.statement_reader.Verb.{Verb}
 use Rattle.jcode.specs.declared.statement_reader.Verb.TheVariants as verb
 use Rattle.jcode.specs.declared.variable.Variable.{Variable}
-use Rattle.jcode.specs.Bytes.{slice}
+use Rattle.jcode.specs.Bytes.{name_byte, slice}
 use Rattle.jcode.specs.Language.{Language, ◌⊙◌, Many, Just, Gap, MayGap, Spelt}
 use Rattle.jcode.specs.Spelling.{Sizes, Variable as Mentioned, Leader, Bracketed, Listing, Term, Lead, Declares, Declarations, Heading, Says, scope_with}
-use Rattle.jcode.specs.Pieces.{Answer, got, refused, Reader, refuse, and_then, ◌▷◌, ◌◁◌, ◌⊗◌, white, read_gap, read_end, read_may_gap}
+use Rattle.jcode.specs.Pieces.{Answer, got, refused, Reader, refuse, and_then, ◌▷◌, ◌◁◌, ◌⊗◌, white, read_gap, read_end, past_gap, read_may_gap, read_word, short, read_name}
 use Rattle.jcode.specs.Scopes.{Scope, listing}
 use Rattle.jcode.specs.Tables.{full_by}
 use Rattle.jcode.specs.ReadTerms.{read_row, read_open, read_begin, read_close, read_lead, read_operands, read_term}
 use Rattle.jcode.specs.ReadStatements.{read_target, read_listing, read_text_end, read_label_end, read_gap_label, by_verb}
-use Rattle.jcode.specs.ReadUnits.{goes_on, opens_declaration, read_entry, read_declarations, by_found, read_sentence, read_finish, read_statements, Tables, read_heading, read_body, read_rest, located, read_unit}
+use Rattle.jcode.specs.ReadUnits.{goes_on, colon_after, opens_declaration, read_entry, read_declarations, by_found, read_sentence, read_finish, read_statements, Tables, read_heading, read_body, read_rest, located, read_unit}
 use Rattle.jcode.specs.Sentences.{Sentence, Hang, Break, Require, Proclaim, New, Assign, Split, When, Join, rows_of, verb_word, verbs, verb_of, rows_all}
 use Rattle.jcode.specs.Units.{Declared, declared_in, retold}
-use Rattle.jcode.proofs.Outcomes.{refused_got, then_got}
-use Rattle.jcode.proofs.Places.{joins, spelt_as, spelt_none}
+use Rattle.jcode.proofs.Outcomes.{refused_got, then_got, unless_got}
+use Rattle.jcode.proofs.Places.{byte, joins, spelt_as, spelt_none}
 use Rattle.jcode.proofs.Grouping.{regroup, under, regroup3}
 use Rattle.jcode.proofs.Terms.{lead_agrees, begin_agrees, term_agrees}
-use Rattle.jcode.proofs.Marks.{gap_agrees, may_gap_agrees}
-use Rattle.jcode.proofs.Words.{word_agrees}
+use Rattle.jcode.proofs.Fronts.{passes_byte, front_stops}
+use Rattle.jcode.proofs.Marks.{gap_agrees, may_gap_agrees, mark_agrees}
+use Rattle.jcode.proofs.Words.{word_is, word_agrees, name_agrees}
+use Rattle.jcode.proofs.Numbers.{byte_spelt}
 use Rattle.jcode.proofs.Rows.{first_is}
 use Rattle.jcode.proofs.Statements.{rows_push}
 use Rattle.jcode.proofs.Saying.{rows_told, sentence_agrees}
@@ -36,7 +38,7 @@ use Rattle.jcode.proofs.Declaring.{entry_agrees, declarations_agree}
 use Rattle.jcode.proofs.Whole.{scope_is, heading_within, heading_agrees}
 use Rattle.jcode.proofs.Lists.{listing_agrees, Target, target_agrees}
 use Rattle.jcode.proofs.Fairness.{Fair, got_fair, then_fair, missing, limit, mark_fair, white_fair, lead_fair, inside_fair, close_fair, listing_fair, target_fair, text_end_fair, label_end_fair, gap_label_fair, branch_fair, word_fair, name_fair, finish_fair, declaration_fair, heading_fair}
-use Rattle.jcode.specs.Outgrown.{Front, OperandsPartway, Partway, Interrupted, in_require, in_proclaim, in_new, in_shadow, in_value, in_when, IsOutgrown, by_variables, by_statements, by_rows}
+use Rattle.jcode.specs.Outgrown.{Front, OperandsPartway, Partway, Interrupted, in_require, in_proclaim, in_new, in_shadow, in_value, in_when, Begins, Opening, OpensStatement, IsOutgrown, by_variables, by_statements, by_rows}
 use Rattle.jcode.specs.Notation.{sizes_of}
 use Rattle.jcode.specs.Rows.{UnitRow, operands_after}
 
@@ -72,10 +74,11 @@ module _ (tables : Sizes) (bytes : List ℕ) where
     pub spelt : Spelt (L rows) bytes i place
     pub full : used ≤ tables.rows → used + rows ≡ tables.rows
     pub few : used + rows < 2000
+    pub opens : Begins (Just (codes "(")) bytes place
 
   -- after a piece, as part of another language
   filled_as : {L K : ℕ → Language} {P : Language} {used i k place : ℕ} → Spelt P bytes i k → (h : Fills L used k place) → ((w : List ℕ) → (P ⊙ L h.rows) w → K h.rows w) → Fills K used i place
-  filled_as s h f = record { rows = h.rows; spelt = spelt_as f (joins s h.spelt); full = h.full; few = h.few }
+  filled_as s h f = record { rows = h.rows; spelt = spelt_as f (joins s h.spelt); full = h.full; few = h.few; opens = h.opens }
 
   -- what stands ahead of an expression that fills the row table
   after_gap : {A B : Type 0} (r : Reader A) (f : A → B) {i place : ℕ} → i ≤ length bytes → and_then ((read_gap ▷ r) bytes i) (λ a j. got (f a) j) ≡ refuse Table place → (j : ℕ) × Spelt Gap bytes i j × (r bytes j ≡ refuse Table place)
@@ -105,12 +108,12 @@ module _ (tables : Sizes) (bytes : List ℕ) where
     operand_first : (k m : ℕ) (first : Bool) (used : ℕ) (rs : List UnitRow) {i j n place : ℕ} → length rs ≤ tables.rows - used → Spelt (Lead first) bytes i j → Spelt (Term sc k rs) bytes j n → Fills (OperandsPartway (Term sc k) (Partway sc k) m false) (used + length rs) n place → Fills (OperandsPartway (Term sc k) (Partway sc k) (suc m) first) used i place
     operand_first k m first used rs fits s r f =
         let few = f.few in
-        record { rows = length rs + f.rows; spelt = spelt_as (λ w h. inr (rs, f.rows, refl, h)) (joins s (joins r f.spelt)); full = λ h. omega (arith, f.full (omega arith)); few = omega arith }
+        record { rows = length rs + f.rows; spelt = spelt_as (λ w h. inr (rs, f.rows, refl, h)) (joins s (joins r f.spelt)); full = λ h. omega (arith, f.full (omega arith)); few = omega arith; opens = f.opens }
 
     row_first : (k used : ℕ) (r : UnitRow) {i j place : ℕ} → used < tables.rows → Spelt (Just (codes "(") ⊙ MayGap ⊙ Leader sc r) bytes i j → Fills (OperandsPartway (Term sc k) (Partway sc k) (operands_after r) true) (used + 1) j place → Fills (Partway sc (suc k)) used i place
     row_first k used r fits s f =
         let few = f.few in
-        record { rows = f.rows + 1; spelt = spelt_as (λ w h. inr (r, f.rows, refl, regroup3 w h)) (joins s f.spelt); full = λ h. omega (arith, f.full (omega arith)); few = omega arith }
+        record { rows = f.rows + 1; spelt = spelt_as (λ w h. inr (r, f.rows, refl, regroup3 w h)) (joins s f.spelt); full = λ h. omega (arith, f.full (omega arith)); few = omega arith; opens = f.opens }
 
     operands_fill : (k : ℕ) → Terms k → (m : ℕ) (first : Bool) (used i place : ℕ) → i ≤ length bytes → read_operands (term k) m first used bytes i ≡ refuse Table place → Fills (OperandsPartway (Term sc k) (Partway sc k) m first) used i place
     operands_fill k rec zero first used i place l e = absurd (got_refused e)
@@ -128,12 +131,13 @@ module _ (tables : Sizes) (bytes : List ℕ) where
         operand_first k m first used t.0 r.fits s r.spelt (operands_fill k rec m false (used + length t.0) t.1 place r.spelt.within more))
         (then_refused ((read_lead first ▷ term k used) bytes i) _ e)
 
-    begin_fills : (k used i place : ℕ) → read_begin sc (suc k) tables.rows used bytes i ≡ refuse Table place → (place ≡ i) × (tables.rows ≤ used) × (used < 2000)
+    begin_fills : (k used i place : ℕ) → i ≤ length bytes → read_begin sc (suc k) tables.rows used bytes i ≡ refuse Table place → (place ≡ i) × (tables.rows ≤ used) × (used < 2000) × Begins (Just (codes "(")) bytes i
     unfolding read_begin
-    begin_fills k used i place e =
+    begin_fills k used i place l e =
         let o = first_of (read_open (suc k) tables.rows used bytes i) (λ _ j. (read_may_gap ▷ read_row sc) bytes j) (λ _. inside_fair bytes sc) e in
         let m = past (λ _ j. cond (eqb (suc k) 0) (refuse Limit i) (cond (leb 2000 used) (refuse Limit i) (cond (leb tables.rows used) (refuse Table i) (got tt j)))) (mark_fair bytes (codes "(") i) o in
-        limits (eqb (suc k) 0) (leb 2000 used) refl (leb tables.rows used) refl m.1 m.3
+        let b = limits (eqb (suc k) 0) (leb 2000 used) refl (leb tables.rows used) refl m.1 m.3 in
+        (b.0, b.1, b.2, (m.1, ((mark_agrees {tables = tables} (codes "(")).sound i m.0 m.1 l m.2).spelt))
       where
         limits : (a : Bool) (b : Bool) → leb 2000 used ≡ b → (c : Bool) → leb tables.rows used ≡ c → (j : ℕ) → cond {A = Answer (Unit {0})} a (refuse Limit i) (cond b (refuse Limit i) (cond c (refuse Table i) (got tt j))) ≡ refuse Table place → (place ≡ i) × (tables.rows ≤ used) × (used < 2000)
         limits true b p c q j e = absurd ((limit i).fair place e)
@@ -151,10 +155,10 @@ module _ (tables : Sizes) (bytes : List ℕ) where
     term_fills (suc k) used i place l e =
         ⊎_elim
         (λ t.
-        let b = begin_fills k used i place t in
+        let b = begin_fills k used i place l t in
         let full = b.1 in
         let few = b.2 in
-        record { rows = 0; spelt = subst (λ j. Spelt (Partway sc (suc k) 0) bytes i j) (sym b.0) (spelt_none (Partway sc (suc k) 0) i l (inl (refl, refl))); full = λ h. omega arith; few = omega arith })
+        record { rows = 0; spelt = subst (λ j. Spelt (Partway sc (suc k) 0) bytes i j) (sym b.0) (spelt_none (Partway sc (suc k) 0) i l (inl (refl, refl))); full = λ h. omega arith; few = omega arith; opens = subst (Begins (Just (codes "(")) bytes) (sym b.0) b.3 })
         (λ t.
         let s = (begin_agrees tables bytes sc once k used).sound i t.0 t.1 l t.2 in
         let o = first_of (read_operands (term k) (operands_after t.0) true (used + 1) bytes t.1) _ (λ rs j. closed t.0 rs j) t.3 in
@@ -211,6 +215,7 @@ module _ (tables : Sizes) (bytes : List ℕ) where
           spelt = spelt_as (λ w h. in_value v e f.rows refl (targeted v w h)) (joins s (joins t (joins m.1 f.spelt)));
           full = λ h. omega (arith, f.full (omega arith));
           few = omega arith;
+          opens = f.opens;
         }
 
     assign_terms : (v : ℕ) {h i place : ℕ} → Spelt (Targeted v) bytes h i → (read_term sc tables.rows 32 used ⊗ value) bytes i ≡ refuse Table place → Fills (Interrupted sc) used h place
@@ -280,15 +285,24 @@ module _ (tables : Sizes) (bytes : List ℕ) where
       by true is e = (sym (refused_where {A = A} e), ltb-true size most is)
       by false is e = absurd ((limit {A = A} i).fair place e)
 
-  sentence_full : (sc : Scope) (size used i place : ℕ) → read_sentence sc tables.rows (full_by size 200) true used bytes i ≡ refuse Table place → (place ≡ i) × (size < 200)
+  sentence_full : (sc : Scope) (size used i place : ℕ) → i ≤ length bytes → read_sentence sc tables.rows (full_by size 200) true used bytes i ≡ refuse Table place → (place ≡ i) × (size < 200) × OpensStatement bytes i
   unfolding read_sentence
-  sentence_full sc size used i place e =
+  sentence_full sc size used i place l e =
       let t = past (λ s j. by_found sc tables.rows used (full_by size 200) true i (verb_of (slice bytes s)) bytes j) (word_fair bytes i) e in
-      by (verb_of (slice bytes t.0)) t.1 t.3
+      by (verb_of (slice bytes t.0)) refl t.2 t.3
     where
-      by : (o : Option Verb) (j : ℕ) → by_found sc tables.rows used (full_by size 200) true i o bytes j ≡ refuse Table place → (place ≡ i) × (size < 200)
-      by None j e = absurd ((missing i).fair place e)
-      by (Some v) j e = full_where {A = Sentence Span} size 200 i place e
+      by : {s : Span} {j : ℕ} (o : Option Verb) → verb_of (slice bytes s) ≡ o → read_word bytes i ≡ got s j → by_found sc tables.rows used (full_by size 200) true i o bytes j ≡ refuse Table place → (place ≡ i) × (size < 200) × OpensStatement bytes i
+      by None is w e = absurd ((missing i).fair place e)
+      by {s = s} {j = j} (Some v) is w e =
+          let f = full_where {A = Sentence Span} size 200 i place e in
+          let ends = word_is bytes w in
+          let opens : OpensStatement bytes i = record {
+            verb = v;
+            next = j;
+            spelt = spelt_as (λ x h. h.1 ∙ first_is verb_word (slice bytes s) verbs v is) ((word_agrees {tables = tables}).sound i s j l w).spelt;
+            whole = passes_byte name_byte refl bytes j ∙ ap (λ k. name_byte (byte bytes k)) (sym ends.2) ∙ front_stops name_byte bytes i refl;
+          } in
+          (f.0, f.1, opens)
 
   -- statements up to where the tables are blamed, after so many and so many rows
   pub record Cut (sc : Scope) (n used i place : ℕ) : Type 0 where
@@ -296,7 +310,7 @@ module _ (tables : Sizes) (bytes : List ℕ) where
     pub next : ℕ
     pub spelt : Spelt (Many (Says sc) (Just []) said) bytes i next
     pub fits : used ≤ tables.rows → used + length (rows_all said) ≤ tables.rows
-    pub cause : ((next ≡ place) × (n + length said ≡ tables.statements) × (n + length said < 200)) ⊎ Fills (Interrupted sc) (used + length (rows_all said)) next place
+    pub cause : ((next ≡ place) × (n + length said ≡ tables.statements) × (n + length said < 200) × OpensStatement bytes place) ⊎ Fills (Interrupted sc) (used + length (rows_all said)) next place
 
   module _ (sc : Scope) (once : IsDistinct same_word sc.names) where
     cut_more : (n used : ℕ) (s : Sentence (List ℕ)) {i j place : ℕ} → length (rows_of s) ≤ tables.rows - used → Spelt (Says sc s) bytes i j → Cut sc (n + 1) (used + length (rows_of s)) j place → Cut sc n used i place
@@ -308,7 +322,7 @@ module _ (tables : Sizes) (bytes : List ℕ) where
           spelt = joins h c.spelt;
           fits = λ l. omega (arith, rows, c.fits (omega arith));
           cause = ⊎_elim
-              (λ t. let a = t.1 in let b = t.2 in inl (t.0, omega arith, omega arith))
+              (λ t. let a = t.1 in let b = t.2 in inl (t.0, omega arith, omega arith, t.3))
               (λ t. inr (subst (λ m. Fills (Interrupted sc) m c.next place) rows t))
               c.cause;
         }
@@ -326,9 +340,9 @@ module _ (tables : Sizes) (bytes : List ℕ) where
     statements_cut zero n seen i place count l e =
         ⊎_elim
         (λ t.
-        let f = sentence_full sc size (length (rows_all seen)) i place (first_of (step true seen bytes i) (λ _ j. got seen j) (λ _. got_fair seen) t.1) in
+        let f = sentence_full sc size (length (rows_all seen)) i place l (first_of (step true seen bytes i) (λ _ j. got seen j) (λ _. got_fair seen) t.1) in
         let few = f.1 in
-        record { said = []; next = i; spelt = spelt_none (Just []) i l refl; fits = λ h. omega arith; cause = inl (sym f.0, omega arith, omega arith) })
+        record { said = []; next = i; spelt = spelt_none (Just []) i l refl; fits = λ h. omega arith; cause = inl (sym f.0, omega arith, omega arith, subst (OpensStatement bytes) (sym f.0) f.2) })
         (λ t. absurd (no_more seen i place t.1))
         (either_refused (goes_on bytes i) _ _ e)
     statements_cut (suc left) n seen i place count l e =
@@ -352,18 +366,30 @@ module _ (tables : Sizes) (bytes : List ℕ) where
     pub spelt : Spelt (Declarations made) bytes i place
     pub full : n + length made ≡ tables.variables
     pub few : n + length made < 32
+    pub opens : Begins Opening bytes place
 
   declared_more : (n : ℕ) (d : Declared) {i j place : ℕ} → Spelt (Declares d) bytes i j → Undeclared (n + 1) j place → Undeclared n i place
   declared_more n d s u =
       let full = u.full in
       let few = u.few in
-      record { made = d ∷ u.made; spelt = joins s u.spelt; full = omega arith; few = omega arith }
+      record { made = d ∷ u.made; spelt = joins s u.spelt; full = omega arith; few = omega arith; opens = u.opens }
 
-  entry_full : (seen : List Variable) (i place : ℕ) → read_entry (full_by tables.variables 32) true seen bytes i ≡ refuse Table place → (place ≡ i) × (tables.variables < 32)
+  -- a name that was read, and the colon that was seen after it
+  opening : (i : ℕ) {s : Span} {j : ℕ} → i ≤ length bytes → opens_declaration bytes i ≡ true → read_name bytes i ≡ got s j → Begins Opening bytes i
+  opening i {s = s} {j = j} l more e =
+      let w = then_got (read_word bytes i) short e in
+      let word = w.2 ∙ (unless_got (ltb 32 w.0.length) (got w.0 w.1) _ w.3).1 in
+      let name = ((name_agrees {tables = tables}).sound i s j l e).spelt in
+      let gap = ((may_gap_agrees {tables = tables}).sound j tt (past_gap bytes j) name.within refl).spelt in
+      let colon = byte_spelt bytes 58 (omega arith) (past_gap bytes j) gap.within (sym (ap (colon_after bytes) word) ∙ more) in
+      (past_gap bytes j + 1, spelt_as (λ x h. (slice bytes s, h)) (joins name (joins gap colon)))
+
+  entry_full : (seen : List Variable) (i place : ℕ) → i ≤ length bytes → opens_declaration bytes i ≡ true → read_entry (full_by tables.variables 32) true seen bytes i ≡ refuse Table place → (place ≡ i) × (tables.variables < 32) × Begins Opening bytes i
   unfolding read_entry
-  entry_full seen i place e =
+  entry_full seen i place l more e =
       let t = past (λ s j. refuse (full_by tables.variables 32) i) (name_fair bytes i) e in
-      full_where {A = Variable} tables.variables 32 i place t.3
+      let f = full_where {A = Variable} tables.variables 32 i place t.3 in
+      (f.0, f.1, opening i l more t.2)
 
   entry_fair : (seen : List Variable) (i place : ℕ) → read_entry (full_by tables.variables 32) false seen bytes i ≡ refuse Table place → ⊥
   unfolding read_entry
@@ -373,9 +399,9 @@ module _ (tables : Sizes) (bytes : List ℕ) where
   declarations_cut zero n seen i place count l e =
       ⊎_elim
       (λ t.
-      let f = entry_full seen i place (first_of (read_entry (full_by tables.variables 32) true seen bytes i) (λ _ j. got seen j) (λ _. got_fair seen) t.1) in
+      let f = entry_full seen i place l t.0 (first_of (read_entry (full_by tables.variables 32) true seen bytes i) (λ _ j. got seen j) (λ _. got_fair seen) t.1) in
       let few = f.1 in
-      record { made = []; spelt = subst (Spelt (Declarations []) bytes i) (sym f.0) (spelt_none (Declarations []) i l refl); full = omega arith; few = omega arith })
+      record { made = []; spelt = subst (Spelt (Declarations []) bytes i) (sym f.0) (spelt_none (Declarations []) i l refl); full = omega arith; few = omega arith; opens = subst (Begins Opening bytes) (sym f.0) f.2 })
       (λ t. absurd (got_refused t.1))
       (either_refused (opens_declaration bytes i) _ _ e)
   declarations_cut (suc left) n seen i place count l e =
@@ -398,8 +424,8 @@ module _ (t : Tables) (bytes : List ℕ) where
   outgrown_statements name ds {start = start} s d c =
       let front : Spelt (Front name ds c.said) bytes start c.next = joins s (joins d c.spelt) in
       ⊎_elim
-      (λ h. let full = h.1 in let few = h.2 in by_statements name ds c.said (subst (Spelt (Front name ds c.said) bytes start) h.0 front) (omega arith) (omega arith))
-      (λ h. let fits = c.fits (omega arith) in let full = h.full (omega arith) in let few = h.few in by_rows name ds c.said c.next h.rows front h.spelt (omega arith) (omega arith))
+      (λ h. let full = h.1 in let few = h.2 in by_statements name ds c.said (subst (Spelt (Front name ds c.said) bytes start) h.0 front) (omega arith) (omega arith) h.3)
+      (λ h. let fits = c.fits (omega arith) in let full = h.full (omega arith) in let few = h.few in by_rows name ds c.said c.next h.rows front h.spelt (omega arith) (omega arith) h.opens)
       c.cause
 
   outgrown_rest : (name : List ℕ) {start i place : ℕ} → Spelt (Heading name) bytes start i → read_rest t bytes i ≡ refuse Table place → IsOutgrown sizes bytes start place
@@ -409,7 +435,7 @@ module _ (t : Tables) (bytes : List ℕ) where
       let d = declarations_cut sizes bytes (min (length t.variables) 32) 0 [] i place (omega arith) s.within h in
       let full = d.full in
       let few = d.few in
-      by_variables name d.made (joins s (joins d.spelt (spelt_none (Just []) place d.spelt.within refl))) (omega arith) (omega arith))
+      by_variables name d.made (joins s (joins d.spelt (spelt_none (Just []) place d.spelt.within refl))) (omega arith) (omega arith) d.opens)
       (λ h.
       let d = (declarations_agree sizes bytes).sound i h.0 h.1 s.within h.2 in
       let o = first_of (read_body t h.0 bytes h.1) (λ ss j. got (h.0, ss) j) (λ ss. got_fair (h.0, ss)) h.3 in

@@ -1,9 +1,11 @@
 -- What it means that tables are too short for a unit, as far as it was read.
 use Rattle.std.specs.Prelude.{◌≡◌, ℕ, zero, suc, ◌+◌, ◌<◌, Bool, true, false, ◌⊎◌, List, [], length, codes}
-use Rattle.jcode.specs.Language.{Language, ◌⊙◌, Many, Just, Gap, MayGap, Spelt}
+use Rattle.jcode.specs.declared.statement_reader.Verb.{Verb}
+use Rattle.jcode.specs.Bytes.{name_byte, passes}
+use Rattle.jcode.specs.Language.{Language, ◌⊙◌, Many, Just, Gap, MayGap, Name, Spelt}
 use Rattle.jcode.specs.Spelling.{Sizes, Variable, Leader, Lead, Term, Expression, Bracketed, Listing, Says, Declarations, scope_with, Heading}
 use Rattle.jcode.specs.Scopes.{Scope, listing}
-use Rattle.jcode.specs.Sentences.{Sentence, rows_all}
+use Rattle.jcode.specs.Sentences.{Sentence, verb_word, rows_all}
 use Rattle.jcode.specs.Units.{Declared}
 use Rattle.jcode.specs.Rows.{UnitRow, operands_after}
 
@@ -34,8 +36,23 @@ pub data Interrupted (sc : Scope) (n : ℕ) (w : List ℕ) : Type 0 where
 abbrev pub Front : List ℕ → List Declared → List (Sentence (List ℕ)) → Language
 Front name ds ss = Heading name ⊙ Declarations ds ⊙ Many (Says (scope_with ds)) (Just []) ss
 
--- what stands before a place fills a table, and falls short of the notation's limit
+-- something of the language stands at a place
+abbrev pub Begins : Language → List ℕ → ℕ → Type 0
+Begins P bytes place = (next : ℕ) × Spelt P bytes place next
+
+-- a name with a colon after it, which opens a declaration
+abbrev pub Opening : Language
+Opening w = (n : List ℕ) × (Name n ⊙ MayGap ⊙ Just (codes ":")) w
+
+-- one of the ten words stands at a place, and is no longer: it opens a statement
+pub record OpensStatement (bytes : List ℕ) (place : ℕ) : Type 0 where
+  pub verb : Verb
+  pub next : ℕ
+  pub spelt : Spelt (Just (verb_word verb)) bytes place next
+  pub whole : passes name_byte bytes next ≡ false
+
+-- what stands before a place fills a table and falls short of the notation's limit, and one record more begins there
 pub data IsOutgrown (most : Sizes) (bytes : List ℕ) (start place : ℕ) : Type 0 where
-  by_variables : (name : List ℕ) (ds : List Declared) → Spelt (Front name ds []) bytes start place → length ds ≡ most.variables → length ds < 32 → IsOutgrown most bytes start place
-  by_statements : (name : List ℕ) (ds : List Declared) (ss : List (Sentence (List ℕ))) → Spelt (Front name ds ss) bytes start place → length ss ≡ most.statements → length ss < 200 → IsOutgrown most bytes start place
-  by_rows : (name : List ℕ) (ds : List Declared) (ss : List (Sentence (List ℕ))) (next n : ℕ) → Spelt (Front name ds ss) bytes start next → Spelt (Interrupted (scope_with ds) n) bytes next place → length (rows_all ss) + n ≡ most.rows → length (rows_all ss) + n < 2000 → IsOutgrown most bytes start place
+  by_variables : (name : List ℕ) (ds : List Declared) → Spelt (Front name ds []) bytes start place → length ds ≡ most.variables → length ds < 32 → Begins Opening bytes place → IsOutgrown most bytes start place
+  by_statements : (name : List ℕ) (ds : List Declared) (ss : List (Sentence (List ℕ))) → Spelt (Front name ds ss) bytes start place → length ss ≡ most.statements → length ss < 200 → OpensStatement bytes place → IsOutgrown most bytes start place
+  by_rows : (name : List ℕ) (ds : List Declared) (ss : List (Sentence (List ℕ))) (next n : ℕ) → Spelt (Front name ds ss) bytes start next → Spelt (Interrupted (scope_with ds) n) bytes next place → length (rows_all ss) + n ≡ most.rows → length (rows_all ss) + n < 2000 → Begins (Just (codes "(")) bytes place → IsOutgrown most bytes start place

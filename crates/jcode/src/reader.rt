@@ -1,8 +1,10 @@
 // Reading a unit into three tables.
 
-ghost use Rattle.std.specs.Prelude.{◌≡◌};
+ghost use Rattle.std.specs.Prelude.{◌≡◌, Err};
+ghost use Rattle.jcode.specs.declared.refusal.Layer.TheVariants.{Reading};
 ghost use Rattle.jcode.specs.Notation.{AcceptsExactly};
 ghost use Rattle.jcode.specs.Pieces.{Reads};
+ghost use Rattle.jcode.specs.Refusals.{layer_of};
 ghost use Rattle.jcode.specs.ReadUnits.{read_heading, tables, read_unit, answered, left_by, attempted, achieved};
 
 use super::cursor::Cursor;
@@ -81,6 +83,7 @@ pub fn read(
 ) -> Result<Outline, ReadFault>
     ensures result { result ≡ answered (read_unit (tables variables.old statements.old rows.old) bytes.now start) }
     ensures left { tables variables.new statements.new rows.new ≡ left_by (tables variables.old statements.old rows.old) (read_unit (tables variables.old statements.old rows.old) bytes.now start) }
+    ensures layer { (f : ReadFault) → result ≡ Err f → layer_of f.refusal ≡ Reading }
     ensures notation { AcceptsExactly bytes.now start (tables variables.old statements.old rows.old) result (tables variables.new statements.new rows.new) }
 {
     let outline = attempt(

@@ -28,7 +28,7 @@ pub enum Refusal {
     Label,
     // There is a circle.
     Circle,
-    // A row can leave the span with every variable at its type's bounds.
+    // With every variable at its type's bounds, a row has the range mark 'any'.
     Range,
     // There are too many paths.
     Paths,
