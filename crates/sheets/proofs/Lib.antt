@@ -5,6 +5,7 @@ pub mod Parts
 pub mod Matching
 pub mod Passing
 pub mod Running
+pub mod Arranging
 pub mod Numbered
 pub mod Extending
 pub mod Joining

@@ -7,6 +7,7 @@ pub mod Runs
 pub mod PathSheets
 pub mod Currents
 pub mod Matches
+pub mod Layouts
 pub mod Settling
 pub mod Writings
 pub mod Drafts

@@ -2,6 +2,7 @@
 
 ghost use Rattle.std.specs.Prelude.{◌≡◌, ◌≤◌, Decides, IfOk};
 ghost use Rattle.checking.specs.CheckedUnits.{said};
+ghost use Rattle.sheets.specs.Layouts.{SheetsLaidOut};
 ghost use Rattle.sheets.specs.Matches.{Matches, SheetsKeep};
 ghost use Rattle.sheets.specs.Drafts.{Drafts, Measures, WritesSheet};
 ghost use Rattle.sheets.specs.Settling.{condition};
@@ -71,7 +72,7 @@ fn whole(
     draft(unit, number, rows, parts, cells).ok_or(Refusal::Condition.into())
 }
 
-// Writes the sheet of a path to the front of the buffers, and tells how long it is. What it wrote fills the place of a sheet, which then says the path's condition. The sheets of a checked unit keep the rules of sheets, and say what its runs do.
+// Writes the sheet of a path to the front of the buffers, and tells how long it is. What it wrote fills the place of a sheet, which then says the path's condition. The sheets of a checked unit keep the rules of sheets, say what its runs do, and are laid out statement by statement.
 pub fn write(
     unit: &CheckedUnit<'_>,
     number: usize,
@@ -83,6 +84,7 @@ pub fn write(
     ensures fills { IfOk result (λ n. StandsFor (condition (said unit.now) number) n rows.new parts.new cells.new) }
     ensures keep { SheetsKeep (said unit.now) }
     ensures runs { Matches (said unit.now) }
+    ensures laid { SheetsLaidOut (said unit.now) }
 {
     whole(unit, number, rows, parts, cells)
 }
