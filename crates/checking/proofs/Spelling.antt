@@ -18,16 +18,16 @@ use Rattle.jcode.specs.Scopes.{Scope, listing, member, name_in}
 use Rattle.jcode.specs.Sentences.{Sentence, Hang, Break, Require, Proclaim, New, Assign, Split, When, Branch, Join}
 use Rattle.jcode.specs.Rows.{UnitRow}
 use Rattle.jcode.specs.ReadUnits.{Tables}
-use Rattle.jcode.specs.Spelling.{Variable, Listed, Close, Expression, Bracketed, MoreNames, Names, Listing, Says, InDomain, Declares, scope_with, Spells}
+use Rattle.jcode.specs.Spelling.{Variable, Listed, Expression, Bracketed, MoreNames, Names, Listing, Says, InDomain, Declares, scope_with, Spells, limits}
 use Rattle.jcode.specs.Units.{declared_in, retold, unit_of}
 use Rattle.jcode.proofs.Saying.{all_rows_told}
 use Rattle.jcode.proofs.Whole.{scope_is}
 use Rattle.checking.specs.Tests.{apart}
-use Rattle.checking.specs.Pieces.{fits, is_name, is_text, is_label, is_domain, is_declaration, is_term, is_list}
+use Rattle.checking.specs.Pieces.{is_name, is_text, is_label, is_domain, is_declaration, is_term, is_list}
 use Rattle.checking.specs.Sentences.{keeps}
 use Rattle.checking.specs.Readable.{Readable, sentences_in}
-use Rattle.checking.specs.Spelled.{text_fits, Laid, ReadableIsSpelled}
-use Rattle.checking.proofs.Wording.{Spelled, ◌&◌, these, gap, no_gap, line_end, at_most, number, label, name, text}
+use Rattle.checking.specs.Spelled.{lies_in, text_fits, Laid, ReadableIsSpelled}
+use Rattle.checking.proofs.Wording.{Spelled, ◌&◌, these, gap, no_gap, line_end, close, at_most, number, label, name, text}
 use Rattle.checking.proofs.Writing.{term_spelled}
 
 -- things of which no two are alike by their keys
@@ -40,9 +40,6 @@ distinct {X = X} eq key (x ∷ xs) e = let h = and_parts (not (list_any (λ y. e
     none [] e = tt
     none (y ∷ ys) e = let h = or_parts (eq (key x) (key y)) (list_any (λ y. eq (key x) (key y)) ys) e in (h.0, none ys h.1)
 
-close : Spelled Close
-close = no_gap & these (codes ")")
-
 bracketed : {P : Language} → Spelled P → Spelled (Bracketed P)
 bracketed p = these (codes "(") & no_gap & p & close
 
@@ -51,9 +48,9 @@ many : {X B : Type 0} (item : B → Language) {end : Language} (f : X → B) (te
 many item f test each last [] e = last
 many item f test each last (x ∷ xs) e = let h = and_parts (test x) (list_all test xs) e in each x h.0 & many item f test each last xs h.1
 
-each_so : {X : Type 0} (p q : X → Bool) → ((x : X) → p x ≡ true → q x ≡ true) → (xs : List X) → list_all p xs ≡ true → list_all q xs ≡ true
-each_so p q so [] e = refl
-each_so p q so (x ∷ xs) e = let h = and_parts (p x) (list_all p xs) e in and_from (q x) (list_all q xs) (so x h.0) (each_so p q so xs h.1)
+list_all-weaker : {X : Type 0} (p q : X → Bool) → ((x : X) → p x ≡ true → q x ≡ true) → (xs : List X) → list_all p xs ≡ true → list_all q xs ≡ true
+list_all-weaker p q so [] e = refl
+list_all-weaker p q so (x ∷ xs) e = let h = and_parts (p x) (list_all p xs) e in and_from (q x) (list_all q xs) (so x h.0) (list_all-weaker p q so xs h.1)
 
 in_domain : (d : Domain) → is_domain d ≡ true → Spelled (InDomain d)
 in_domain Integer e = these (codes "integer")
@@ -126,22 +123,19 @@ module _ (bytes : List ℕ) where
     says (Branch t l) e = let h = and_parts (is_text bytes t) (is_label l) e in these (codes "BRANCH") & gap & text bytes t h.0 & no_gap & label l h.1 & line_end
     says (Join l) e = these (codes "JOIN") & gap & label l e & line_end
 
-  name_fits : (s : Span) → is_name bytes s ≡ true → fits bytes s ≡ true
-  name_fits s e = (and_parts (fits bytes s) _ e).0
-
-  text_within : (s : Span) → is_text bytes s ≡ true → fits bytes s ≡ true
-  text_within s e = (and_parts (fits bytes s) _ e).0
+  inside : (s : Span) (b : Bool) → (lies_in bytes s && b) ≡ true → lies_in bytes s ≡ true
+  inside s b e = (and_parts (lies_in bytes s) b e).0
 
   kept_fits : (count : ℕ) (s : Sentence Span) → keeps bytes count s ≡ true → text_fits bytes s ≡ true
   kept_fits count Hang e = refl
-  kept_fits count (Break t) e = text_within t e
-  kept_fits count (Require x t) e = text_within t (and_parts (is_term count [] x) (is_text bytes t) e).1
+  kept_fits count (Break t) e = inside t _ e
+  kept_fits count (Require x t) e = inside t _ (and_parts (is_term count [] x) (is_text bytes t) e).1
   kept_fits count (Proclaim x) e = refl
-  kept_fits count (New vs x t) e = text_within t (and_parts (is_term count vs x) (is_text bytes t) (and_parts (is_list count vs) _ e).1).1
+  kept_fits count (New vs x t) e = inside t _ (and_parts (is_term count vs x) (is_text bytes t) (and_parts (is_list count vs) _ e).1).1
   kept_fits count (Assign v x y) e = refl
   kept_fits count (Split l) e = refl
   kept_fits count (When x l) e = refl
-  kept_fits count (Branch t l) e = text_within t (and_parts (is_text bytes t) (is_label l) e).0
+  kept_fits count (Branch t l) e = inside t _ (and_parts (is_text bytes t) (is_label l) e).0
   kept_fits count (Join l) e = refl
 
   module _ (name : Span) (t : Tables) (r : Readable bytes name t) where
@@ -165,11 +159,11 @@ module _ (bytes : List ℕ) where
       limited = record {
         variables = simp length-map r.few_variables;
         statements = simp length-map r.few_statements;
-        rows = subst (λ rs. length rs ≤ 2000) (r.filled ∙ sym (all_rows_told (slice bytes) (sentences_in t))) r.few_rows;
+        rows = subst (λ rs. length rs ≤ limits.rows) (r.filled ∙ sym (all_rows_told (slice bytes) (sentences_in t))) r.few_rows;
       };
-      named = name_fits name r.named;
-      declared = each_so (is_declaration bytes) (λ v. fits bytes v.name) (λ v e. name_fits v.name (and_parts (is_name bytes v.name) (is_domain v.domain) e).0) t.variables r.declared;
-      told = each_so (keeps bytes (length t.variables)) (text_fits bytes) (kept_fits (length t.variables)) (sentences_in t) r.kept;
+      named = inside name _ r.named;
+      declared = list_all-weaker (is_declaration bytes) (λ v. lies_in bytes v.name) (λ v e. inside v.name _ (and_parts (is_name bytes v.name) (is_domain v.domain) e).0) t.variables r.declared;
+      told = list_all-weaker (keeps bytes (length t.variables)) (text_fits bytes) (kept_fits (length t.variables)) (sentences_in t) r.kept;
     }
 
 -- tables that keep the rules of reading hold a unit that the notation allows

@@ -9,6 +9,7 @@ use Rattle.terms.specs.Numbers.{least, greatest, in_span}
 use Rattle.jcode.specs.declared.span.Span.{Span}
 use Rattle.jcode.specs.Bytes.{slice, is_word, is_text as plain}
 use Rattle.jcode.specs.Language.{Language, ◌⊙◌, Just, Gap, MayGap, End, IsName, Number, Label, Text}
+use Rattle.jcode.specs.Spelling.{Close}
 use Rattle.jcode.proofs.Texts.{plain_text}
 use Rattle.checking.specs.Pieces.{fits, is_name, is_text, is_label}
 
@@ -33,6 +34,9 @@ no_gap = ([], inl refl)
 
 pub line_end : Spelled End
 line_end = (10 ∷ [], ([], refl, refl))
+
+pub close : Spelled Close
+close = no_gap & these (codes ")")
 
 pub at_most : (a b : ℤ) → int_le a b ≡ true → a ≤ℤ b
 at_most a b e = grind (arith, ints)

@@ -20,7 +20,7 @@ use Rattle.jcode.specs.Spelling.{Variable, Listed, Mention, Leader, Lead, Operan
 use Rattle.jcode.specs.Rows.{UnitRow, operands_after}
 use Rattle.checking.specs.Nesting.{deeper, deepest, raised, nesting, single, writes_term}
 use Rattle.checking.specs.Pieces.{stage_known, row_known}
-use Rattle.checking.proofs.Wording.{Spelled, ◌&◌, these, gap, no_gap, number}
+use Rattle.checking.proofs.Wording.{Spelled, ◌&◌, these, gap, no_gap, close, number}
 
 -- an entry of the stack is there, and nests at most so deep
 abbrev Within : ℕ → Option ℕ → Type 0
@@ -116,7 +116,7 @@ module _ (sc : Scope) (count : ℕ) (listed : List ℕ) (limit : ℕ) (named : (
 
   -- a row and its operands
   whole : (k : ℕ) (r : UnitRow) (rs : List UnitRow) → row_known count listed r ≡ true → Spelled (Operands (Term sc k) (operands_after r) true rs) → Spelled (Term sc (suc k) (r ∷ rs))
-  whole k r rs e operands = these (codes "(") & no_gap & leader r e & operands & no_gap & these (codes ")")
+  whole k r rs e operands = these (codes "(") & no_gap & leader r e & operands & close
 
   module _ (r : UnitRow) (known : row_known count listed r ≡ true) (stack : List (Option ℕ)) (rs : List UnitRow) (before : Stacked stack rs) (o : Option ℕ) (deep : (d k : ℕ) → o ≡ Some d → d ≤ k → AllWithin k (operands_after r) 0 stack) where
     abbrev operands : Taken (operands_after r) stack rs

@@ -1,25 +1,28 @@
 -- Tables that keep the rules of reading, and units that bytes spell.
-use Rattle.std.specs.Prelude.{◌≡◌, ℕ, Bool, true, List}
+use Rattle.std.specs.Prelude.{◌≡◌, ℕ, ◌+◌, Bool, true, List, length, nat_le}
 use Rattle.std.specs.List.{list_all}
 use Rattle.jcode.specs.declared.span.Span.{Span}
 use Rattle.jcode.specs.ReadUnits.{Tables, laid_all, rows_all}
 use Rattle.jcode.specs.Sentences.{Sentence, Hang, Break, Require, Proclaim, New, Assign, Split, When, Branch, Join}
 use Rattle.jcode.specs.Spelling.{Spells, Within, limits}
 use Rattle.jcode.specs.Units.{unit_of}
-use Rattle.checking.specs.Pieces.{fits}
 use Rattle.checking.specs.Readable.{Readable, sentences_in}
+
+-- a span lies within the bytes
+abbrev pub lies_in : List ℕ → Span → Bool
+lies_in bytes s = nat_le (s.start + s.length) (length bytes)
 
 -- its text lies within the bytes, where it has one
 abbrev pub text_fits : List ℕ → Sentence Span → Bool
 text_fits bytes Hang = true
-text_fits bytes (Break t) = fits bytes t
-text_fits bytes (Require e t) = fits bytes t
+text_fits bytes (Break t) = lies_in bytes t
+text_fits bytes (Require e t) = lies_in bytes t
 text_fits bytes (Proclaim e) = true
-text_fits bytes (New vs e t) = fits bytes t
+text_fits bytes (New vs e t) = lies_in bytes t
 text_fits bytes (Assign v e f) = true
 text_fits bytes (Split l) = true
 text_fits bytes (When e l) = true
-text_fits bytes (Branch t l) = fits bytes t
+text_fits bytes (Branch t l) = lies_in bytes t
 text_fits bytes (Join l) = true
 
 -- what a spelling cannot show of a unit's tables
@@ -30,8 +33,8 @@ pub record Laid (bytes : List ℕ) (name : Span) (t : Tables) : Type 0 where
   -- the unit keeps the notation's limits
   pub limited : Within limits (unit_of bytes name t)
   -- names and texts lie within the bytes
-  pub named : fits bytes name ≡ true
-  pub declared : list_all (λ v. fits bytes v.name) t.variables ≡ true
+  pub named : lies_in bytes name ≡ true
+  pub declared : list_all (λ v. lies_in bytes v.name) t.variables ≡ true
   pub told : list_all (text_fits bytes) (sentences_in t) ≡ true
 
 -- the tables hold a unit that the notation allows
