@@ -18,10 +18,9 @@ use Rattle.jcode.proofs.Within.{unit_fits, is_told}
 use Rattle.checking.specs.declared.fault.CheckFault.{CheckFault}
 use Rattle.checking.specs.declared.fault.CheckFault.TheVariants.{Reading, Rule}
 use Rattle.checking.specs.Breaks.{BreaksRule, NoneOf, FirstOf, FirstBroken, Unbroken}
-use Rattle.checking.specs.Pieces.{fits}
 use Rattle.checking.specs.Readable.{Readable, sentences_in}
 use Rattle.checking.specs.Readings.{fronts, Leaves, LeavesReadable, LeavesSound}
-use Rattle.checking.specs.Spelled.{text_fits, Laid}
+use Rattle.checking.specs.Spelled.{lies_in, text_fits, Laid}
 use Rattle.checking.proofs.Keeping.{spelled_is_readable}
 use Rattle.checking.proofs.Outlining.{tables_of, was_read}
 
@@ -30,10 +29,10 @@ sentences_read : (u : Located) → sentences_in (tables_of u) ≡ u.sentences
 sentences_read u = all_held (rows_all u.sentences) 0 u.sentences [] refl refl
 
 module _ (bytes : List ℕ) where
-  within : (s : Span) → s.start + s.length ≤ length bytes → fits bytes s ≡ true
+  within : (s : Span) → s.start + s.length ≤ length bytes → lies_in bytes s ≡ true
   within s le = le-leb _ _ le
 
-  text_tested : (s : Sentence Span) → is_told bytes (fits bytes) within s ≡ text_fits bytes s
+  text_tested : (s : Sentence Span) → is_told bytes (lies_in bytes) within s ≡ text_fits bytes s
   text_tested Hang = refl
   text_tested (Break t) = refl
   text_tested (Require e t) = refl
@@ -45,7 +44,7 @@ module _ (bytes : List ℕ) where
   text_tested (Branch t l) = refl
   text_tested (Join l) = refl
 
-  texts_tested : (ss : List (Sentence Span)) → list_all (is_told bytes (fits bytes) within) ss ≡ list_all (text_fits bytes) ss
+  texts_tested : (ss : List (Sentence Span)) → list_all (is_told bytes (lies_in bytes) within) ss ≡ list_all (text_fits bytes) ss
   texts_tested [] = refl
   texts_tested (s ∷ ss) = λ k. text_tested s k && texts_tested ss k
 
@@ -66,14 +65,14 @@ module _ (bytes : List ℕ) (start : ℕ) (before : Tables) where
     is_laid : Laid bytes o.name (fronts o after)
     is_laid =
         let w = was_read before after (read_unit before bytes start) o (sym told) refl in
-        let f = unit_fits bytes (fits bytes) (within bytes) before start w.unit w.next w.read in
+        let f = unit_fits bytes (lies_in bytes) (within bytes) before start w.unit w.next w.read in
         let sentences : sentences_in (fronts o after) ≡ w.unit.sentences = ap sentences_in w.cut ∙ sentences_read w.unit in
         record {
           laid = ap (λ t. t.statements) w.cut ∙ ap (laid_all 0) (sym sentences);
           filled = ap (λ t. t.rows) w.cut ∙ ap rows_all (sym sentences);
           limited = tells.is.keeps;
-          named = ap (λ o. fits bytes o.name) w.told ∙ f.named;
-          declared = ap (λ t. list_all (λ v. fits bytes v.name) t.variables) w.cut ∙ f.declared;
+          named = ap (λ o. lies_in bytes o.name) w.told ∙ f.named;
+          declared = ap (λ t. list_all (λ v. lies_in bytes v.name) t.variables) w.cut ∙ f.declared;
           told = ap (list_all (text_fits bytes)) sentences ∙ sym (texts_tested bytes w.unit.sentences) ∙ f.told;
         }
 

@@ -31,10 +31,10 @@ use Rattle.jcode.specs.Units.{declared_in, retold, unit_of}
 use Rattle.jcode.proofs.Names.{length_map}
 use Rattle.jcode.proofs.Saying.{all_rows_told}
 use Rattle.jcode.proofs.Whole.{scope_is}
-use Rattle.checking.specs.Pieces.{fits, is_name, is_text, is_label, is_domain, is_declaration, same_name, stage_known, row_known, is_term, is_list}
+use Rattle.checking.specs.Pieces.{is_name, is_text, is_label, is_domain, is_declaration, same_name, stage_known, row_known, is_term, is_list}
 use Rattle.checking.specs.Readable.{sentences_in}
 use Rattle.checking.specs.Sentences.{keeps}
-use Rattle.checking.specs.Spelled.{text_fits, SpelledIsReadable}
+use Rattle.checking.specs.Spelled.{lies_in, text_fits, SpelledIsReadable}
 use Rattle.checking.specs.Tests.{apart}
 use Rattle.checking.proofs.Depths.{writes}
 
@@ -72,14 +72,14 @@ plain_kept t h =
     eq-eqb _ _ (length-prefix_len (text_at t) places ∙ prefix_len_is (text_at t) places (length t) 0 (omega arith) on (λ lt. absurd (omega arith)))
 
 module _ (bytes : List ℕ) where
-  fits_length : (s : Span) → fits bytes s ≡ true → length (slice bytes s) ≡ s.length
+  fits_length : (s : Span) → lies_in bytes s ≡ true → length (slice bytes s) ≡ s.length
   fits_length s e = let le = leb-true (s.start + s.length) (length bytes) e in omega (arith, length-take s.length (drop s.start bytes), length-drop s.start bytes)
 
-  name_kept : (s : Span) → fits bytes s ≡ true → IsName (slice bytes s) → is_name bytes s ≡ true
-  name_kept s e h = let few = h.1 in and_from (fits bytes s) _ e (and_from (leb s.length 32) _ (le-leb s.length 32 (omega (arith, fits_length s e))) h.0)
+  name_kept : (s : Span) → lies_in bytes s ≡ true → IsName (slice bytes s) → is_name bytes s ≡ true
+  name_kept s e h = let few = h.1 in and_from (lies_in bytes s) _ e (and_from (leb s.length 32) _ (le-leb s.length 32 (omega (arith, fits_length s e))) h.0)
 
-  text_kept : (s : Span) → fits bytes s ≡ true → IsText (slice bytes s) → is_text bytes s ≡ true
-  text_kept s e h = let few = h.2 in and_from (fits bytes s) _ e (and_from (leb s.length 80) _ (le-leb s.length 80 (omega (arith, fits_length s e))) (plain_kept (slice bytes s) h))
+  text_kept : (s : Span) → lies_in bytes s ≡ true → IsText (slice bytes s) → is_text bytes s ≡ true
+  text_kept s e h = let few = h.2 in and_from (lies_in bytes s) _ e (and_from (leb s.length 80) _ (le-leb s.length 80 (omega (arith, fits_length s e))) (plain_kept (slice bytes s) h))
 
 -- things with keys of which no two are alike
 module _ {X Y : Type 0} (alike : Y → Y → Bool) (key : X → Y) where
@@ -161,10 +161,10 @@ module _ (bytes : List ℕ) (sc : Scope) (outside : (v : ℕ) (w : List ℕ) →
       and_from _ _ (says_kept s _ p.0 h.2) (all_kept ss _ p.1 h.3)
 
 module _ (bytes : List ℕ) where
-  declared_kept : (vs : List Variable) (w : List ℕ) → list_all (λ v. fits bytes v.name) vs ≡ true → Declarations (map (declared_in bytes) vs) w → list_all (is_declaration bytes) vs ≡ true
+  declared_kept : (vs : List Variable) (w : List ℕ) → list_all (λ v. lies_in bytes v.name) vs ≡ true → Declarations (map (declared_in bytes) vs) w → list_all (is_declaration bytes) vs ≡ true
   declared_kept [] w f h = refl
   declared_kept (v ∷ vs) w f h =
-      let p = and_parts (fits bytes v.name) (list_all (λ v. fits bytes v.name) vs) f in
+      let p = and_parts (lies_in bytes v.name) (list_all (λ v. lies_in bytes v.name) vs) f in
       let domain = h.2.3.3.3.3.2.3.3.2.3.3.3.3.2 in
       and_from _ _ (and_from _ _ (name_kept bytes v.name p.0 h.2.2.0) (domain_kept v.domain _ domain)) (declared_kept vs _ p.1 h.3)
 
