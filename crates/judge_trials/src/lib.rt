@@ -9,3 +9,5 @@ mod doubles;
 mod relays;
 #[cfg(test)]
 mod tables;
+#[cfg(test)]
+mod tries;
