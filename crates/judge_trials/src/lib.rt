@@ -11,3 +11,5 @@ mod passes;
 mod relays;
 #[cfg(test)]
 mod tables;
+#[cfg(test)]
+mod tries;
