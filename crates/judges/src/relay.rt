@@ -1,5 +1,8 @@
 // Relays: one judge after another.
 
+ghost use Rattle.std.specs.Prelude.{◌≡◌, ◌≢◌, length, true};
+ghost use Rattle.sheets.specs.Judges.{unsure, has_room, Replied};
+ghost use Rattle.sheets.specs.Places.{cells_in, marks_for, says};
 ghost use Rattle.judges.specs.Relays.{relayed, relay_sound, Relays};
 
 use reckoning::mark::Mark;
@@ -18,7 +21,12 @@ impl<A: Judge, B: Judge> Judge for Relay<A, B> {
 
     ghost sound = { λ s. relay_sound (A.meaning s.first) (B.meaning s.second) (A.sound s.first) (B.sound s.second) };
 
-    fn ask(&mut self, sheet: &Sheet<'_>, valuation: &mut [i64], working: &mut [Mark]) -> Answer {
+    // The second judge stays as it was where there is room and the first is not unsure.
+    fn ask(&mut self, sheet: &Sheet<'_>, valuation: &mut [i64], working: &mut [Mark]) -> Answer
+        ensures same { ⟦<Relay<A, B> as Judge>⟧.meaning self.new ≡ ⟦<Relay<A, B> as Judge>⟧.meaning self.old }
+        ensures replied { Replied (⟦<Relay<A, B> as Judge>⟧.meaning self.old (says sheet.now)) (length (cells_in sheet.now)) (marks_for sheet.now) valuation.old working.old result valuation.new working.new }
+        ensures spared { has_room (length (cells_in sheet.now)) (marks_for sheet.now) valuation.old working.old ≡ true → A.meaning self.old.first (says sheet.now) ≢ unsure → self.new.second ≡ self.old.second }
+    {
         match self.first.ask(sheet, valuation, working) {
             Answer::Unsure => self.second.ask(sheet, valuation, working),
             answer => answer,
