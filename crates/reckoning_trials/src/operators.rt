@@ -18,8 +18,7 @@ const SAME: Sort = Sort::Same;
 struct Line {
     operator: Operator,
     word: &'static [u8],
-    takes: Operands,
-    gives: Sort,
+    signature: Signature,
     results: &'static [([i64; 3], Option<i64>)],
 }
 
@@ -28,8 +27,10 @@ static OPERATORS: [Line; 25] = [
     Line {
         operator: Operator::Addi,
         word: b"addi",
-        takes: Operands::Two(NUMBER, NUMBER),
-        gives: NUMBER,
+        signature: Signature {
+            operands: Operands::Two(NUMBER, NUMBER),
+            result: NUMBER,
+        },
         results: &[
             ([7, -9, 0], Some(-2)),
             ([-7, -2, 0], Some(-9)),
@@ -41,8 +42,10 @@ static OPERATORS: [Line; 25] = [
     Line {
         operator: Operator::Subi,
         word: b"subi",
-        takes: Operands::Two(NUMBER, NUMBER),
-        gives: NUMBER,
+        signature: Signature {
+            operands: Operands::Two(NUMBER, NUMBER),
+            result: NUMBER,
+        },
         results: &[
             ([7, 9, 0], Some(-2)),
             ([-7, -9, 0], Some(2)),
@@ -54,8 +57,10 @@ static OPERATORS: [Line; 25] = [
     Line {
         operator: Operator::Negi,
         word: b"negi",
-        takes: Operands::One(NUMBER),
-        gives: NUMBER,
+        signature: Signature {
+            operands: Operands::One(NUMBER),
+            result: NUMBER,
+        },
         results: &[
             ([7, 0, 0], Some(-7)),
             ([-2000000000, 0, 0], Some(2000000000)),
@@ -65,8 +70,10 @@ static OPERATORS: [Line; 25] = [
     Line {
         operator: Operator::Mul,
         word: b"mul",
-        takes: Operands::Two(NUMBER, NUMBER),
-        gives: NUMBER,
+        signature: Signature {
+            operands: Operands::Two(NUMBER, NUMBER),
+            result: NUMBER,
+        },
         results: &[
             ([-7, 9, 0], Some(-63)),
             ([-7, -9, 0], Some(63)),
@@ -79,8 +86,10 @@ static OPERATORS: [Line; 25] = [
     Line {
         operator: Operator::Divi,
         word: b"divi",
-        takes: Operands::Two(NUMBER, NUMBER),
-        gives: NUMBER,
+        signature: Signature {
+            operands: Operands::Two(NUMBER, NUMBER),
+            result: NUMBER,
+        },
         results: &[
             ([7, 2, 0], Some(3)),
             ([-7, 2, 0], Some(-3)),
@@ -95,8 +104,10 @@ static OPERATORS: [Line; 25] = [
     Line {
         operator: Operator::Mod,
         word: b"mod",
-        takes: Operands::Two(NUMBER, NUMBER),
-        gives: NUMBER,
+        signature: Signature {
+            operands: Operands::Two(NUMBER, NUMBER),
+            result: NUMBER,
+        },
         results: &[
             ([7, 2, 0], Some(1)),
             ([-7, 2, 0], Some(-1)),
@@ -111,8 +122,10 @@ static OPERATORS: [Line; 25] = [
     Line {
         operator: Operator::Odd,
         word: b"odd",
-        takes: Operands::One(NUMBER),
-        gives: TRUTH,
+        signature: Signature {
+            operands: Operands::One(NUMBER),
+            result: TRUTH,
+        },
         results: &[
             ([3, 0, 0], Some(1)),
             ([-3, 0, 0], Some(1)),
@@ -124,8 +137,10 @@ static OPERATORS: [Line; 25] = [
     Line {
         operator: Operator::Gei,
         word: b"gei",
-        takes: Operands::Two(NUMBER, NUMBER),
-        gives: TRUTH,
+        signature: Signature {
+            operands: Operands::Two(NUMBER, NUMBER),
+            result: TRUTH,
+        },
         results: &[
             ([-3, 2, 0], Some(0)),
             ([2, 2, 0], Some(1)),
@@ -135,8 +150,10 @@ static OPERATORS: [Line; 25] = [
     Line {
         operator: Operator::Lei,
         word: b"lei",
-        takes: Operands::Two(NUMBER, NUMBER),
-        gives: TRUTH,
+        signature: Signature {
+            operands: Operands::Two(NUMBER, NUMBER),
+            result: TRUTH,
+        },
         results: &[
             ([-3, 2, 0], Some(1)),
             ([2, 2, 0], Some(1)),
@@ -146,8 +163,10 @@ static OPERATORS: [Line; 25] = [
     Line {
         operator: Operator::Gti,
         word: b"gti",
-        takes: Operands::Two(NUMBER, NUMBER),
-        gives: TRUTH,
+        signature: Signature {
+            operands: Operands::Two(NUMBER, NUMBER),
+            result: TRUTH,
+        },
         results: &[
             ([-3, 2, 0], Some(0)),
             ([2, 2, 0], Some(0)),
@@ -157,8 +176,10 @@ static OPERATORS: [Line; 25] = [
     Line {
         operator: Operator::Lti,
         word: b"lti",
-        takes: Operands::Two(NUMBER, NUMBER),
-        gives: TRUTH,
+        signature: Signature {
+            operands: Operands::Two(NUMBER, NUMBER),
+            result: TRUTH,
+        },
         results: &[
             ([-3, 2, 0], Some(1)),
             ([2, 2, 0], Some(0)),
@@ -168,8 +189,10 @@ static OPERATORS: [Line; 25] = [
     Line {
         operator: Operator::Mini,
         word: b"mini",
-        takes: Operands::Two(NUMBER, NUMBER),
-        gives: NUMBER,
+        signature: Signature {
+            operands: Operands::Two(NUMBER, NUMBER),
+            result: NUMBER,
+        },
         results: &[
             ([-3, 2, 0], Some(-3)),
             ([2, 2, 0], Some(2)),
@@ -179,8 +202,10 @@ static OPERATORS: [Line; 25] = [
     Line {
         operator: Operator::Maxi,
         word: b"maxi",
-        takes: Operands::Two(NUMBER, NUMBER),
-        gives: NUMBER,
+        signature: Signature {
+            operands: Operands::Two(NUMBER, NUMBER),
+            result: NUMBER,
+        },
         results: &[
             ([-3, 2, 0], Some(2)),
             ([2, 2, 0], Some(2)),
@@ -190,26 +215,28 @@ static OPERATORS: [Line; 25] = [
     Line {
         operator: Operator::True,
         word: b"true",
-        takes: Operands::None,
-        gives: TRUTH,
-        results: &[
-            ([0, 0, 0], Some(1)),
-        ],
+        signature: Signature {
+            operands: Operands::None,
+            result: TRUTH,
+        },
+        results: &[([0, 0, 0], Some(1))],
     },
     Line {
         operator: Operator::False,
         word: b"false",
-        takes: Operands::None,
-        gives: TRUTH,
-        results: &[
-            ([0, 0, 0], Some(0)),
-        ],
+        signature: Signature {
+            operands: Operands::None,
+            result: TRUTH,
+        },
+        results: &[([0, 0, 0], Some(0))],
     },
     Line {
         operator: Operator::And,
         word: b"and",
-        takes: Operands::Two(TRUTH, TRUTH),
-        gives: TRUTH,
+        signature: Signature {
+            operands: Operands::Two(TRUTH, TRUTH),
+            result: TRUTH,
+        },
         results: &[
             ([0, 0, 0], Some(0)),
             ([0, 1, 0], Some(0)),
@@ -220,8 +247,10 @@ static OPERATORS: [Line; 25] = [
     Line {
         operator: Operator::Or,
         word: b"or",
-        takes: Operands::Two(TRUTH, TRUTH),
-        gives: TRUTH,
+        signature: Signature {
+            operands: Operands::Two(TRUTH, TRUTH),
+            result: TRUTH,
+        },
         results: &[
             ([0, 0, 0], Some(0)),
             ([0, 1, 0], Some(1)),
@@ -232,18 +261,19 @@ static OPERATORS: [Line; 25] = [
     Line {
         operator: Operator::Not,
         word: b"not",
-        takes: Operands::One(TRUTH),
-        gives: TRUTH,
-        results: &[
-            ([0, 0, 0], Some(1)),
-            ([1, 0, 0], Some(0)),
-        ],
+        signature: Signature {
+            operands: Operands::One(TRUTH),
+            result: TRUTH,
+        },
+        results: &[([0, 0, 0], Some(1)), ([1, 0, 0], Some(0))],
     },
     Line {
         operator: Operator::Implies,
         word: b"implies",
-        takes: Operands::Two(TRUTH, TRUTH),
-        gives: TRUTH,
+        signature: Signature {
+            operands: Operands::Two(TRUTH, TRUTH),
+            result: TRUTH,
+        },
         results: &[
             ([0, 0, 0], Some(1)),
             ([0, 1, 0], Some(1)),
@@ -254,8 +284,10 @@ static OPERATORS: [Line; 25] = [
     Line {
         operator: Operator::Impliedby,
         word: b"impliedby",
-        takes: Operands::Two(TRUTH, TRUTH),
-        gives: TRUTH,
+        signature: Signature {
+            operands: Operands::Two(TRUTH, TRUTH),
+            result: TRUTH,
+        },
         results: &[
             ([0, 0, 0], Some(1)),
             ([0, 1, 0], Some(0)),
@@ -266,8 +298,10 @@ static OPERATORS: [Line; 25] = [
     Line {
         operator: Operator::Notimplies,
         word: b"notimplies",
-        takes: Operands::Two(TRUTH, TRUTH),
-        gives: TRUTH,
+        signature: Signature {
+            operands: Operands::Two(TRUTH, TRUTH),
+            result: TRUTH,
+        },
         results: &[
             ([0, 0, 0], Some(0)),
             ([0, 1, 0], Some(0)),
@@ -278,8 +312,10 @@ static OPERATORS: [Line; 25] = [
     Line {
         operator: Operator::Notimpliedby,
         word: b"notimpliedby",
-        takes: Operands::Two(TRUTH, TRUTH),
-        gives: TRUTH,
+        signature: Signature {
+            operands: Operands::Two(TRUTH, TRUTH),
+            result: TRUTH,
+        },
         results: &[
             ([0, 0, 0], Some(0)),
             ([0, 1, 0], Some(1)),
@@ -290,8 +326,10 @@ static OPERATORS: [Line; 25] = [
     Line {
         operator: Operator::Equal,
         word: b"equal",
-        takes: Operands::Two(SAME, SAME),
-        gives: TRUTH,
+        signature: Signature {
+            operands: Operands::Two(SAME, SAME),
+            result: TRUTH,
+        },
         results: &[
             ([0, 0, 0], Some(1)),
             ([0, 1, 0], Some(0)),
@@ -305,8 +343,10 @@ static OPERATORS: [Line; 25] = [
     Line {
         operator: Operator::Notequal,
         word: b"notequal",
-        takes: Operands::Two(SAME, SAME),
-        gives: TRUTH,
+        signature: Signature {
+            operands: Operands::Two(SAME, SAME),
+            result: TRUTH,
+        },
         results: &[
             ([0, 0, 0], Some(0)),
             ([0, 1, 0], Some(1)),
@@ -320,8 +360,10 @@ static OPERATORS: [Line; 25] = [
     Line {
         operator: Operator::If,
         word: b"if",
-        takes: Operands::Three(TRUTH, SAME, SAME),
-        gives: SAME,
+        signature: Signature {
+            operands: Operands::Three(TRUTH, SAME, SAME),
+            result: SAME,
+        },
         results: &[
             ([1, 5, -7], Some(5)),
             ([0, 5, -7], Some(-7)),
@@ -361,8 +403,8 @@ static SMALL: [Mark; 22] = [
 
 static NONE: [Mark; 1] = [Mark { low: 0, high: 0 }];
 
-fn arity(line: &Line) -> usize {
-    match line.takes {
+fn arity(signature: Signature) -> usize {
+    match signature.operands {
         Operands::None => 0,
         Operands::One(_) => 1,
         Operands::Two(_, _) => 2,
@@ -370,17 +412,21 @@ fn arity(line: &Line) -> usize {
     }
 }
 
-fn operands(line: &Line, place: usize) -> &'static [Mark] {
-    if place < arity(line) { &SMALL } else { &NONE }
+fn operands(signature: Signature, place: usize) -> &'static [Mark] {
+    if place < arity(signature) {
+        &SMALL
+    } else {
+        &NONE
+    }
 }
 
 fn is_of(sort: Sort, number: i64) -> bool {
     sort != TRUTH || number == 0 || number == 1
 }
 
-fn is_suited(line: &Line, numbers: [i64; 3]) -> bool {
+fn is_suited(signature: Signature, numbers: [i64; 3]) -> bool {
     let [x, y, z] = numbers;
-    match line.takes {
+    match signature.operands {
         Operands::None => true,
         Operands::One(a) => is_of(a, x),
         Operands::Two(a, b) => is_of(a, x) && is_of(b, y),
@@ -435,13 +481,14 @@ fn widened(range: Option<Mark>, number: i64) -> Mark {
 }
 
 // The least to the greatest result over all choices; all of them lie in the span.
-fn hull(line: &Line, a: Mark, b: Mark, c: Mark) -> Option<Mark> {
+fn hull(operator: Operator, signature: Signature, marks: [Mark; 3]) -> Option<Mark> {
+    let [a, b, c] = marks;
     let mut range = None;
     for x in a.low..=a.high {
         for y in b.low..=b.high {
             for z in c.low..=c.high {
-                if is_suited(line, [x, y, z]) {
-                    range = Some(widened(range, result(line.operator, [x, y, z])));
+                if is_suited(signature, [x, y, z]) {
+                    range = Some(widened(range, result(operator, [x, y, z])));
                 }
             }
         }
@@ -454,10 +501,15 @@ fn magnitude(number: i64) -> i64 {
 }
 
 // A quotient and a remainder are only bounded by the dividend's ends.
-fn expected(line: &Line, a: Mark, b: Mark, c: Mark) -> Mark {
+fn expected(operator: Operator, signature: Signature, marks: [Mark; 3]) -> Mark {
+    let [a, ..] = marks;
     let size = magnitude(a.low).max(magnitude(a.high));
-    match (hull(line, a, b, c), line.operator) {
-        (None, _) => if line.gives == TRUTH { TRUTHS } else { ANY },
+    match (hull(operator, signature, marks), operator) {
+        (None, _) => if signature.result == TRUTH {
+            TRUTHS
+        } else {
+            ANY
+        },
         (Some(_), Operator::Divi | Operator::Mod) => Mark {
             low: size.wrapping_neg(),
             high: size,
@@ -466,8 +518,17 @@ fn expected(line: &Line, a: Mark, b: Mark, c: Mark) -> Mark {
     }
 }
 
+// Points have one choice at most, and a mark that is no point has none for them.
+fn expected_point(operator: Operator, signature: Signature, marks: [Mark; 3]) -> Mark {
+    let [a, b, c] = marks;
+    if a.low != a.high || b.low != b.high || c.low != c.high {
+        return ANY;
+    }
+    hull(operator, signature, marks).unwrap_or(ANY)
+}
+
 // Whether a reckoning answers as expected for every operator over all those marks.
-fn agrees<R: Reckoning, F: Fn(&Line, Mark, Mark, Mark) -> Mark>(
+fn agrees<R: Reckoning, F: Fn(Operator, Signature, [Mark; 3]) -> Mark>(
     rt: &impl Abort,
     reckoning: &R,
     expected: F,
@@ -475,11 +536,13 @@ fn agrees<R: Reckoning, F: Fn(&Line, Mark, Mark, Mark) -> Mark>(
     requires { F.IsAlwaysCallable expected }
 {
     for line in OPERATORS.iter() {
-        for a in operands(line, 0) {
-            for b in operands(line, 1) {
-                for c in operands(line, 2) {
+        let (operator, signature) = (line.operator, line.signature);
+        for a in operands(signature, 0) {
+            for b in operands(signature, 1) {
+                for c in operands(signature, 2) {
                     assert!(rt;
-                        reckoning.apply(line.operator, *a, *b, *c) == expected(line, *a, *b, *c)
+                        reckoning.apply(operator, *a, *b, *c)
+                            == expected(operator, signature, [*a, *b, *c])
                     );
                 }
             }
@@ -489,20 +552,20 @@ fn agrees<R: Reckoning, F: Fn(&Line, Mark, Mark, Mark) -> Mark>(
 
 #[test]
 fn ranges_agree_with_all_choices(rt: HostRuntime) {
-    agrees(&rt, &Ranges, |line, a, b, c| expected(line, a, b, c));
-}
-
-// Points have one choice at most, and a mark that is no point has none for them.
-fn expected_point(line: &Line, a: Mark, b: Mark, c: Mark) -> Mark {
-    if a.low != a.high || b.low != b.high || c.low != c.high {
-        return ANY;
-    }
-    hull(line, a, b, c).unwrap_or(ANY)
+    agrees(
+        &rt,
+        &Ranges,
+        |operator, signature, marks| expected(operator, signature, marks),
+    );
 }
 
 #[test]
 fn points_agree_with_the_one_choice(rt: HostRuntime) {
-    agrees(&rt, &Points, |line, a, b, c| expected_point(line, a, b, c));
+    agrees(
+        &rt,
+        &Points,
+        |operator, signature, marks| expected_point(operator, signature, marks),
+    );
 }
 
 fn point(number: i64) -> Mark {
@@ -523,14 +586,10 @@ fn gives(operator: Operator, numbers: [i64; 3], told: Option<i64>) -> bool {
 fn each_is_as_its_line_says(rt: HostRuntime) {
     for (place, line) in OPERATORS.iter().enumerate() {
         let operator = line.operator;
-        let signature = Signature {
-            operands: line.takes,
-            result: line.gives,
-        };
         assert!(rt; operator as usize == place);
         assert!(rt; find(line.word) == Some(operator));
-        assert!(rt; operator.signature() == signature);
-        assert!(rt; operator.arity() == arity(line));
+        assert!(rt; operator.signature() == line.signature);
+        assert!(rt; operator.arity() == arity(line.signature));
         for (numbers, told) in line.results {
             assert!(rt; gives(operator, *numbers, *told));
         }
