@@ -6,7 +6,7 @@ use Rattle.jcode.specs.declared.reader.Outline.{Outline}
 use Rattle.jcode.specs.declared.refusal.Refusal.{Refusal}
 use Rattle.jcode.specs.declared.span.Span.{Span}
 use Rattle.jcode.specs.Language.{between}
-use Rattle.jcode.specs.Notation.{sizes_of, IsUnit, TellsUnit, AcceptsExactly}
+use Rattle.jcode.specs.Notation.{sizes_of, fronts, IsUnit, TellsUnit, AcceptsExactly}
 use Rattle.jcode.specs.ReadUnits.{Located, Tables, laid_all, rows_all, read_unit, answered, left_by}
 use Rattle.jcode.specs.Sentences.{Sentence, Hang, Break, Require, Proclaim, New, Assign, Split, When, Branch, Join}
 use Rattle.jcode.specs.Spelling.{Spells, Within}
@@ -19,7 +19,7 @@ use Rattle.checking.specs.declared.fault.CheckFault.{CheckFault}
 use Rattle.checking.specs.declared.fault.CheckFault.TheVariants.{Reading, Rule}
 use Rattle.checking.specs.Breaks.{BreaksRule, NoneOf, FirstOf, FirstBroken, Unbroken}
 use Rattle.checking.specs.Readable.{Readable, sentences_in}
-use Rattle.checking.specs.Readings.{fronts, Leaves, LeavesReadable, LeavesSound}
+use Rattle.checking.specs.Readings.{Leaves, LeavesReadable, LeavesSound}
 use Rattle.checking.specs.Spelled.{lies_in, text_fits, Laid}
 use Rattle.checking.proofs.Keeping.{spelled_is_readable}
 use Rattle.checking.proofs.Outlining.{tables_of, was_read}

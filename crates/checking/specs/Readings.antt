@@ -1,9 +1,9 @@
 -- What reading leaves, and how it is checked.
-use Rattle.std.specs.Prelude.{◌≡◌, ◌↔◌, ℕ, List, take, Ok, Err, Result}
+use Rattle.std.specs.Prelude.{◌≡◌, ◌↔◌, ℕ, List, Ok, Err, Result}
 use Rattle.jcode.specs.declared.reader.Outline.{Outline}
 use Rattle.jcode.specs.declared.span.Span.{Span}
-use Rattle.jcode.specs.Notation.{sizes_of, IsUnit}
-use Rattle.jcode.specs.ReadUnits.{Tables, tables, read_unit, answered, left_by}
+use Rattle.jcode.specs.Notation.{sizes_of, fronts, IsUnit}
+use Rattle.jcode.specs.ReadUnits.{Tables, read_unit, answered, left_by}
 use Rattle.jcode.specs.Spelling.{Within}
 use Rattle.jcode.specs.Units.{JUnit, unit_of}
 use Rattle.checking.specs.declared.fault.CheckFault.{CheckFault}
@@ -11,10 +11,6 @@ use Rattle.checking.specs.declared.unit.CheckedUnit.{CheckedUnit}
 use Rattle.checking.specs.Breaks.{BreaksRule, NoneOf, FirstOf, Unbroken}
 use Rattle.checking.specs.CheckedUnits.{said}
 use Rattle.checking.specs.Readable.{Readable}
-
--- the fronts of the tables, as long as an outline tells
-abbrev pub fronts : Outline → Tables → Tables
-fronts o t = tables (take o.variables t.variables) (take o.statements t.statements) (take o.rows t.rows)
 
 -- reading from a place of the bytes on, into tables that held this before, tells the outline and leaves these tables at the front
 pub record Leaves (bytes : List ℕ) (start : ℕ) (before : Tables) (o : Outline) (t : Tables) : Type 0 where

@@ -17,7 +17,7 @@ use Rattle.examiner.specs.declared.slip.Slip.{Slip}
 use Rattle.examiner.specs.declared.verdict.Judgement.TheVariants as judgement
 use Rattle.examiner.specs.Histories.{Meaning, Event, History, Settlement, took, settled, handed_back, told, accepted, out, how_many, first_failed}
 use Rattle.examiner.specs.Owing.{Owed}
-use Rattle.examiner.specs.Promises.{Just, HasSettled, IsSettled, NoneFailed, Honest, TakeKeeps, SettlementKeeps, HandBackKeeps, Keeps, Kept, returned}
+use Rattle.examiner.specs.Promises.{Just, HasSettled, IsSettled, NoneFailed, Honest, TakeKeeps, SettlementKeeps, HandBackKeeps, Keeps, Kept, Accepts, AcceptedIn, Among, AreAccepted, returned}
 use Rattle.examiner.specs.Steps.{path_count, taken, judged, verdict_on, Step, Happened}
 use Rattle.examiner.proofs.Counting.{AllPassed, all_counted, settled_as, only_passed, each_passed, each_settled, settled_low, first_is, is_first, none_has_failed, no_first, some_open, which_open}
 use Rattle.examiner.proofs.Going.{Going, going, taken_ok}
@@ -192,11 +192,17 @@ module _ (u : JUnit) (tag : ℕ) (h : History) (past : Happened u tag h) where
   not_both : (l : Slip) → returned l refusal.Slip ≡ returned l refusal.Buffer → ⊥
   not_both l e = let r = ap (λ (b : Returned). b.fault.refusal) e in cc
 
-  hand_back_keeps : (l : Slip) (r : Result (Unit {0}) Returned) → Step u tag h (handed_back l r) → HandBackKeeps h l r
-  hand_back_keeps l (Ok w) is = record { not_owed = (λ e. cc, λ n. absurd (n (is_owed h l is))); is_accepted = (λ e. is_owed h l is, λ o. refl) }
+  hand_back_keeps : (l : Slip) (r : Result (Unit {0}) Returned) → Step u tag h (handed_back l r) → HandBackKeeps u tag h l r
+  hand_back_keeps l (Ok w) is =
+      let d = (going u tag h past).due l is in
+      record {
+        not_owed = (λ e. cc, λ n. absurd (n (is_owed h l is)));
+        is_accepted = (λ e. is_owed h l is, λ o. refl);
+        again = λ x t k. (k.handed_out l).1 (d.left, λ m o. let e = is_out u tag (handed_back l (Ok w) ∷ h) (is, past) m o in cc, λ i. record { tag = d.tagged i; number = d.number i });
+      }
   hand_back_keeps l (Err e) is =
       let not : Owed h l → ⊥ = λ o. is.0 (is_out u tag h past l o) in
-      record { not_owed = (λ x. not, λ n. ap Err is.1); is_accepted = (λ x. cc, λ o. absurd (not o)) }
+      record { not_owed = (λ x. not, λ n. ap Err is.1); is_accepted = (λ x. cc, λ o. absurd (not o)); again = λ x. cc }
 
   module _ (m : Meaning) (l : Slip) (before after : Held) where
     settlement_keeps : (r : Result Outcome Returned) → Step u tag h (settled m l before r after)
@@ -242,6 +248,20 @@ keeps u sure tag h (settled m l before (Err e) after) x = settlement_keeps u tag
 keeps u sure tag h (handed_back l r) x = hand_back_keeps u tag h x.1 l r x.0
 keeps u sure tag h (told v) x = subst (Honest u (accepted h)) (sym x.0) (honest u tag (accepted h) (out h) (going u tag h x.1) sure (each_just u sure tag h x.1))
 
+one_more : (s : Settlement) (e : Event) (h : History) → AreAccepted h (accepted h) → (Accepts s e → ⊥) → Among s (accepted h) ↔ AcceptedIn s (e ∷ h)
+one_more s e h all not = (λ a. inr ((all s).0 a), λ i. ⊎_elim (λ x. absurd (not x)) (all s).1 i)
+
+are_accepted : (h : History) → AreAccepted h (accepted h)
+are_accepted [] s = (λ a. a, λ i. i)
+are_accepted (took r ∷ h) s = one_more s (took r) h (are_accepted h) (λ x. x)
+are_accepted (settled m l before (Ok o) after ∷ h) s = (
+  λ a. ⊎_elim (λ e. inl (ap (λ (t : Settlement). Ok t.outcome) e, ap (λ (t : Settlement). t.number) (sym e), ap (λ (t : Settlement). t.judge) (sym e))) (λ b. inr ((are_accepted h s).0 b)) a,
+  λ i. ⊎_elim (λ x. let same : o ≡ s.outcome = let y = x.0 in cc in inl (λ j. record { judge = sym x.2 j; number = sym x.1 j; outcome = same j })) (λ b. inr ((are_accepted h s).1 b)) i,
+)
+are_accepted (settled m l before (Err e) after ∷ h) s = one_more s (settled m l before (Err e) after) h (are_accepted h) (λ x. let y = x.0 in cc)
+are_accepted (handed_back l r ∷ h) s = one_more s (handed_back l r) h (are_accepted h) (λ x. x)
+are_accepted (told v ∷ h) s = one_more s (told v) h (are_accepted h) (λ x. x)
+
 pub kept : (u : JUnit) → Sure u → (tag : ℕ) (h : History) → Happened u tag h → Kept u tag h
 kept u sure tag [] x = tt
-kept u sure tag (e ∷ h) x = (keeps u sure tag h e x, kept u sure tag h x.1)
+kept u sure tag (e ∷ h) x = (keeps u sure tag h e x, are_accepted h, kept u sure tag h x.1)

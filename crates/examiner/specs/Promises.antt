@@ -106,18 +106,40 @@ pub record SettlementKeeps (u : JUnit) (h : History) (m : Meaning) (l : Slip) (b
   pub as_it_was : IsErr r → after ≡ before
 
 -- what comes of a hand-back: the slip comes back exactly when it is not owed
-pub record HandBackKeeps (h : History) (l : Slip) (r : Result (Unit {0}) Returned) : Type 0 where
+pub record HandBackKeeps (u : JUnit) (tag : ℕ) (h : History) (l : Slip) (r : Result (Unit {0}) Returned) : Type 0 where
   pub not_owed : r ≡ Err (returned l refusal.Slip) ↔ (Owed h l → ⊥)
   pub is_accepted : IsOk r ↔ Owed h l
+  -- it settles nothing: a take that comes next hands out the same slip
+  pub again : IsOk r → (t : Result Slip SheetFault) → TakeKeeps u tag (handed_back l r ∷ h) t → t ≡ Ok l
 
 -- what is promised of each call, by what came before it
 abbrev pub Keeps : JUnit → ℕ → History → Event → Type 0
 Keeps u tag h (took r) = TakeKeeps u tag h r
 Keeps u tag h (settled m l before r after) = SettlementKeeps u h m l before r after
-Keeps u tag h (handed_back l r) = HandBackKeeps h l r
+Keeps u tag h (handed_back l r) = HandBackKeeps u tag h l r
 Keeps u tag h (told v) = Honest u (accepted h) v
+
+-- this call is a settlement that was accepted: by this judge, of its slip's number, and this is what it answered
+abbrev pub Accepts : Settlement → Event → Type 0
+Accepts s (took r) = ⊥
+Accepts s (settled m l before r after) = (r ≡ Ok s.outcome) × (s.number ≡ l.number) × (s.judge ≡ m)
+Accepts s (handed_back l r) = ⊥
+Accepts s (told v) = ⊥
+
+-- one of these calls is
+abbrev pub AcceptedIn : Settlement → History → Type 0
+AcceptedIn s [] = ⊥
+AcceptedIn s (e ∷ h) = Accepts s e ⊎ AcceptedIn s h
+
+abbrev pub Among : Settlement → List Settlement → Type 0
+Among s [] = ⊥
+Among s (t ∷ before) = (t ≡ s) ⊎ Among s before
+
+-- these are all that the calls accepted, and nothing else
+abbrev pub AreAccepted : History → List Settlement → Type 0
+AreAccepted h ss = (s : Settlement) → Among s ss ↔ AcceptedIn s h
 
 -- and so of each call of a history, in an examination of the unit with the tag
 abbrev pub Kept : JUnit → ℕ → History → Type 0
 Kept u tag [] = Unit {0}
-Kept u tag (e ∷ h) = Keeps u tag h e × Kept u tag h
+Kept u tag (e ∷ h) = Keeps u tag h e × AreAccepted h (accepted h) × Kept u tag h

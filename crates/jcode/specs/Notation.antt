@@ -14,9 +14,13 @@ use Rattle.jcode.specs.Sentences.{rows_all}
 abbrev pub sizes_of : Tables → Sizes
 sizes_of t = record { variables = length t.variables; statements = length t.statements; rows = length t.rows }
 
+-- the fronts of the tables, as long as an outline tells
+abbrev pub fronts : Outline → Tables → Tables
+fronts o t = tables (take o.variables t.variables) (take o.statements t.statements) (take o.rows t.rows)
+
 -- the unit that is told, as the fronts of the tables hold it
 abbrev pub unit_told : List ℕ → Outline → Tables → JUnit
-unit_told bytes o t = unit_of bytes o.name (tables (take o.variables t.variables) (take o.statements t.statements) (take o.rows t.rows))
+unit_told bytes o t = unit_of bytes o.name (fronts o t)
 
 -- the bytes from a place up to another spell the unit, no separator follows, and it keeps the limits
 pub record IsUnit (bytes : List ℕ) (start next : ℕ) (u : JUnit) : Type 0 where

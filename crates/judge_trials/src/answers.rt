@@ -15,7 +15,7 @@ fn the_trier_finds_what_falsifies(rt: HostRuntime) {
     assert!(rt; found == Some((Answer::Fail, [7, 0, 8, 1])));
     let none = asked(&mut Trier, &pressed(9), &PRESSED, &pressures());
     assert!(rt; none == Some((Answer::Pass, [0, 0, 0, 0])));
-    trier_stands();
+    trier_stands(&Trier);
 }
 
 #[test]

@@ -139,7 +139,7 @@ static GOOD: [Change; 9] = [
     Change::Nested(33),
 ];
 
-// Each rule of sheets broken once, and by all else kept.
+// Each rule of sheets broken once, and all others kept, but that a cell which is not there has no kind either.
 static BROKEN: [(&'static str, Change); 22] = [
     ("no part", Change::Whole(&[], &[], &[])),
     (

@@ -122,6 +122,7 @@ examples = record {
   raised_is = refl;
   raised_falsified = (refl, (refl, (refl, refl)));
   order_is_read = order_is_read;
+  order_has = refl;
   order_is = refl;
   order_falsified = (refl, (refl, refl));
   proclaim_helps_not = (3, pos 0 ∷ pos 0 ∷ [], goes [] (starts {i = 2} refl refl) (record { acts = record { typed = refl; demanded = tt; after = refl }; next = (omega arith, refl); admitted = tt }), refl);

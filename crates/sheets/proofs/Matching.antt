@@ -14,8 +14,8 @@ use Rattle.checking.specs.Types.{domains}
 use Rattle.sheets.specs.Runs.{sentence, are_of, with_shadows, types_at, Fitting, stored, listed, Admits, Demands, number_in, Goes, FailsAt, last, FailsAlong}
 use Rattle.sheets.specs.PathSheets.{Progress, cell_of, cells_from, parts_of, cells_of, onward, parts_along, cells_along, started, sheet_of}
 use Rattle.sheets.specs.Sheets.{CellTerm}
-use Rattle.sheets.specs.Valuations.{cell_in, is_within, Within, GoalAloneFalse, Falsifies}
-use Rattle.sheets.specs.Matches.{Sensible, terms_kept, start_in, given_in, Requires, RequiresAlong, GoalIs}
+use Rattle.sheets.specs.Valuations.{cell_in, is_within, Within, GoalIs, Falsifies}
+use Rattle.sheets.specs.Matches.{Sensible, terms_kept, start_in, given_in, Requires, RequiresAlong}
 use Rattle.sheets.proofs.Storing.{length-stored, map-stored, length-cells_from, looked, looked_next, left_over}
 use Rattle.sheets.proofs.Typing.{length-within, within_append, within_cut, within_split, within_typed, within_cells_of, length-are_of, length-with_shadows, length-types_at, length-domains, length-fitting}
 use Rattle.sheets.proofs.Parts.{AllTrue, parts_say, number_over}
@@ -39,12 +39,6 @@ before_parts n v es (f ∷ fs) h = before_goal n v es f fs
 -- the term that a REQUIRE has
 there : {T : Type 0} (n : ℤ) (s : List ℤ) (c e : List UnitRow) (t x : T) → Require c t ≡ Require e x → number_in s s e ≡ n → number_in s s c ≡ n
 there n s c e t x same k = let term : c ≡ e = cc in ap (number_in s s) term ∙ k
-
--- a goal that alone is false has the number 0
-goal_false : (v : List ℤ) (es : List CellTerm) → GoalAloneFalse v es ↔ GoalIs (pos 0) v es
-goal_false v [] = (λ g. g, λ g. g)
-goal_false v (e ∷ []) = (λ g. g, λ g. g)
-goal_false v (e ∷ f ∷ es) = let r = goal_false v (f ∷ es) in (λ g. (g.0, r.0 g.1), λ g. (g.0, r.1 g.1))
 
 fails_requires : {T : Type 0} (st : Sentence T) (s : List ℤ) → FailsAt st s ↔ Requires (pos 0) st s
 fails_requires (Require c t) s = (λ f. (c, t, refl, f), λ r. there (pos 0) s c r.0 t r.1 r.2 r.3)
@@ -219,10 +213,7 @@ comes n u sensible p path v =
       λ r. subst (GivesGoal n u p) whole ((starts_and_requires n u sensible p path (start_in u v) (given_in u v) (length-fitting u (start_in u v) r.0)).1 r),
     )
 
--- ---- and where the number is 0, it is falsified, and the run fails
-falsified : (u : JUnit) (p : List ℕ) (v : List ℤ) → Falsifies (sheet_of u p) v ↔ GivesGoal (pos 0) u p v
-falsified u p v = let r = goal_false v (sheet_of u p).parts in (λ f. (f.0, r.0 f.1), λ g. (g.0, r.1 g.1))
-
+-- ---- and where the number is 0, the sheet is falsified, and the run fails
 failing : (u : JUnit) (p : List ℕ) (s given : List ℤ) → FailsAlong u p s given ↔ RequiresAlong (pos 0) u p s given
 failing u p s given = (
   λ f. (f.0, f.1.0, (fails_requires (sentence u (last 0 p)) (last s f.0)).0 f.1.1),
@@ -231,14 +222,13 @@ failing u p s given = (
 
 pub both_ways : (u : JUnit) → Sensible u → (p : List ℕ) → Path (steps_of u) p → (v : List ℤ) → Falsifies (sheet_of u p) v ↔ (Fitting u (start_in u v) × FailsAlong u p (start_in u v) (given_in u v))
 both_ways u sensible p path v =
-    let g = falsified u p v in
     let c = comes (pos 0) u sensible p path v in
     let f = failing u p (start_in u v) (given_in u v) in
-    (λ a. let r = c.0 (g.0 a) in (r.0, f.1 r.1), λ r. g.1 (c.1 (r.0, f.0 r.1)))
+    (λ a. let r = c.0 a in (r.0, f.1 r.1), λ r. c.1 (r.0, f.0 r.1))
 
 pub starts_and_gives : (u : JUnit) → Sensible u → (p : List ℕ) → Path (steps_of u) p → (start given : List ℤ) → Fitting u start → FailsAlong u p start given → Falsifies (sheet_of u p) (start ++ given)
 starts_and_gives u sensible p path start given fit f =
-    (falsified u p (start ++ given)).1 ((starts_and_requires (pos 0) u sensible p path start given (length-fitting u start fit)).1 (fit, (failing u p start given).0 f))
+    (starts_and_requires (pos 0) u sensible p path start given (length-fitting u start fit)).1 (fit, (failing u p start given).0 f)
 
 pub cut_in_two : (u : JUnit) (start given v : List ℤ) → Fitting u start → ((start_in u v ≡ start) × (given_in u v ≡ given)) ↔ (v ≡ start ++ given)
 cut_in_two u start given v h =

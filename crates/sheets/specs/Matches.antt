@@ -1,7 +1,6 @@
 -- How the sheets of a unit's paths match the runs of the unit.
 use Rattle.std.specs.Prelude.{◌≡◌, ◌↔◌, ℕ, ◌+◌, ◌*◌, Bool, true, false, ◌&&◌, List, [], ◌∷◌, ◌++◌, length, take, drop, ℤ, pos, nat_eq, nat_lt, slice_index_or}
 use Rattle.std.specs.List.{flat_map, list_all, list_any}
-use Rattle.terms.specs.Terms.{value}
 use Rattle.flow.specs.Paths.{Path}
 use Rattle.jcode.specs.ReadTerms.{UnitRow}
 use Rattle.jcode.specs.Sentences.{Sentence, Hang, Break, Require, Proclaim, New, Assign, Split, When, Branch, Join}
@@ -12,8 +11,8 @@ use Rattle.checking.specs.Rules.{kinds_kept, span_kept}
 use Rattle.checking.specs.Types.{domains}
 use Rattle.sheets.specs.Runs.{sentence, Fitting, number_in, Holds, listed, Acts, Reaches, FailsAt, Fails, RunsThrough, last, ComesAlong, FailsThrough, FailsAlong}
 use Rattle.sheets.specs.PathSheets.{sheet_of}
-use Rattle.sheets.specs.Sheets.{CellTerm, Keeps}
-use Rattle.sheets.specs.Valuations.{cell_in, Within, Falsifies}
+use Rattle.sheets.specs.Sheets.{Keeps}
+use Rattle.sheets.specs.Valuations.{Within, GoalIs, Falsifies}
 
 -- a statement's terms are complete and mention what is declared and given, and its list names declared variables
 abbrev pub terms_kept : {T : Type 0} → ℕ → Sentence T → Bool
@@ -76,12 +75,6 @@ Requires {T} n st s = (e : List UnitRow) × (x : T) × (st ≡ Require e x) × (
 -- the run from a start along a path comes to its REQUIRE, whose term has this number there
 abbrev pub RequiresAlong : ℤ → JUnit → List ℕ → List ℤ → List ℤ → Type 0
 RequiresAlong n u p start given = (through : List (List ℤ)) × RunsThrough u p start through given × Requires n (sentence u (last 0 p)) (last start through)
-
--- all parts but the goal are true, and the goal has this number
-abbrev pub GoalIs : ℤ → List ℤ → List CellTerm → Type 0
-GoalIs n v [] = ⊥
-GoalIs n v (goal ∷ []) = value (cell_in v) goal ≡ n
-GoalIs n v (e ∷ f ∷ es) = (value (cell_in v) e ≡ pos 1) × GoalIs n v (f ∷ es)
 
 -- the run from a start along a path through these stores is what a valuation spells out
 abbrev pub Spells : JUnit → List ℕ → List ℤ → List ℤ → List (List ℤ) → Type 0

@@ -203,6 +203,7 @@ pub record Examples : Type 0 where
   pub raised_falsified : Falsifies raised_sheet (pos 0 ∷ pos 0 ∷ pos 1 ∷ pos 1 ∷ [])
   -- a NEW adds cells in the order of its list
   pub order_is_read : Tells order_text (read_unit (room_for 2 4 12) order_text 0) order
+  pub order_has : paths (steps_of order) ≡ order_path ∷ []
   pub order_is : sheet_of order order_path ≡ order_sheet
   pub order_falsified : Falsifies order_sheet (pos 3 ∷ pos 0 ∷ pos 0 ∷ pos 0 ∷ pos 1 ∷ pos 1 ∷ pos 0 ∷ pos 0 ∷ [])
   -- a PROCLAIM ahead of a BREAK does not help a later REQUIRE: no path goes through a second BREAK, and a run starts at it

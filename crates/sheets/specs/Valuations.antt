@@ -21,11 +21,15 @@ is_within (c ∷ cs) (x ∷ xs) = allows c x && is_within cs xs
 abbrev pub Within : List Cell → List ℤ → Type 0
 Within cs v = is_within cs v ≡ true
 
--- every part but the last is true, and the last, the goal, is false
+-- every part but the last is true, and the last, the goal, has this number
+abbrev pub GoalIs : ℤ → List ℤ → List CellTerm → Type 0
+GoalIs n v [] = ⊥
+GoalIs n v (goal ∷ []) = value (cell_in v) goal ≡ n
+GoalIs n v (e ∷ f ∷ es) = (value (cell_in v) e ≡ pos 1) × GoalIs n v (f ∷ es)
+
+-- and is false
 abbrev pub GoalAloneFalse : List ℤ → List CellTerm → Type 0
-GoalAloneFalse v [] = ⊥
-GoalAloneFalse v (goal ∷ []) = value (cell_in v) goal ≡ pos 0
-GoalAloneFalse v (e ∷ f ∷ es) = (value (cell_in v) e ≡ pos 1) × GoalAloneFalse v (f ∷ es)
+GoalAloneFalse v es = GoalIs (pos 0) v es
 
 abbrev pub Falsifies : Condition → List ℤ → Type 0
 Falsifies c v = Within c.cells v × GoalAloneFalse v c.parts
