@@ -1,7 +1,7 @@
 #!/usr/bin/env python3
 """Brings this repository's own definitions and lemmas to today's spelling: words in snake case, facts as types.
 
-usage: python3 tools/respell.py        was run once, at the top, right after the toolchain's own port script, before any edit by hand
+This script is history: it speaks as of 26 November 2026, when it was run once, at the top (it stood in tools/ then), right after the toolchain's own port script, before any edit by hand.
 
 It goes by whole names, in the .antt and .rt files below crates/ (there outside strings) and, between backticks, in README.md and docs/.
 A name of NAMES is written in snake case; OTHERS has those that would fall together with another name, and a fact that was not spelled as a type.
