@@ -129,7 +129,7 @@ impl<R: Reckoning> Judge for Pass<R> {
     }
 }
 
-// It passes a sheet exactly if, part by part from the marks of the bounds, a meet is nothing, another part but the goal is decided 'no', or the goal 'yes'; it is unsure of every other.
+// It passes a sheet exactly if, part by part from the marks of the bounds, a meet is nothing, another part but the goal is decided 'no', or the goal 'yes'; it is unsure of every other (docs/JUDGES.md).
 pub fn pass_stands<R: Reckoning>(pass: &Pass<R>)
     ensures { PartByPart (R.meaning pass.now.reckoning) (⟦<Pass<R> as Judge>⟧.meaning pass.now) }
 {}

@@ -34,7 +34,7 @@ impl<A: Judge, B: Judge> Judge for Relay<A, B> {
     }
 }
 
-// It answers what its first judge does, unless that is unsure, and then what its second does.
+// It answers what its first judge does, unless that is unsure, and then what its second does (docs/JUDGES.md).
 pub fn relay_stands<A: Judge, B: Judge>(relay: &Relay<A, B>)
     ensures { Relays (A.meaning relay.now.first) (B.meaning relay.now.second) (⟦<Relay<A, B> as Judge>⟧.meaning relay.now) }
 {}

@@ -49,7 +49,7 @@ impl Judge for Trier {
     }
 }
 
-// What any trier means. It is sure exactly if the cells that no part sets and some row mentions have no more than 65,536 choices of a number for each; and then the list of its tries is no longer than that, in which a try that a set cell ends counts, too. Then it passes exactly the sheets that no valuation falsifies, and of those that falsify it proposes the one that comes soonest.
+// What any trier means. It is sure exactly if the cells that no part sets and some row mentions have no more than 65,536 choices of a number for each; and then the list of its tries is no longer than that, in which a try that a set cell ends counts, too. Then it passes exactly the sheets that no valuation falsifies, and of those that falsify it proposes the one that comes soonest (docs/JUDGES.md).
 pub fn trier_stands(trier: &Trier)
     ensures { Settles (⟦<Trier as Judge>⟧.meaning trier.now) }
 {}

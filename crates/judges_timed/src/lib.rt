@@ -121,7 +121,7 @@ fn ask(rows: &[CellRow], parts: &[Part], cells: &[Cell]) -> u32
     }
 }
 
-// Asks the trier of a sheet with up to 64 rows, 16 parts and 16 cells, and tells 0 where it passes, 1 where it fails, 2 where it is unsure, 3 where the tables break a rule of sheets, and 4 where the numbers are too many or end within a record.
+// Asks the trier of a sheet with up to 64 rows, 16 parts and 16 cells, and tells 0 where it passes, 1 where it fails, 2 where it is unsure, 3 where the tables break a rule of sheets, and 4 where the numbers are too many or end within a record (docs/JUDGES.md).
 #[unsafe(no_mangle)]
 pub extern "C" fn judges_ask_trier(rows: &[i64], parts: &[i64], cells: &[i64]) -> u32
     ensures { Answered rows.now parts.now cells.now result }

@@ -101,7 +101,7 @@ fn settle_in<J: Judge>(
     Ok(judged(&sheet, judge, valuation, working))
 }
 
-// Settles the condition of a path by a judge, on a desk. A refusal leaves desk and judge as they were.
+// Settles the condition of a path by a judge, on a desk. It is refused by 13 past the last path, and else by 16 where a buffer is short, and then leaves desk and judge as they were (docs/CONDITIONS.md).
 pub fn settle<J: Judge>(
     unit: &CheckedUnit<'_>,
     number: usize,

@@ -71,7 +71,7 @@ impl<'a> Sheet<'a> {
         }
     }
 
-    // Every sheet keeps the rules, whoever filled it.
+    // Every sheet keeps the rules, whoever filled it (docs/CONDITIONS.md).
     pub fn rules_stand(&self)
         ensures filled { fills_from (length (rows_in self.now)) 0 (parts_in self.now) }
         ensures kept { Keeps (says self.now) }
