@@ -48,7 +48,8 @@ many : {X B : Type 0} (item : B → Language) {end : Language} (f : X → B) (te
 many item f test each last [] e = last
 many item f test each last (x ∷ xs) e = let h = and_parts (test x) (list_all test xs) e in each x h.0 & many item f test each last xs h.1
 
-list_all-weaker : {X : Type 0} (p q : X → Bool) → ((x : X) → p x ≡ true → q x ≡ true) → (xs : List X) → list_all p xs ≡ true → list_all q xs ≡ true
+-- a test that another test brings with it holds of each element that passes the other
+pub list_all-weaker : {X : Type 0} (p q : X → Bool) → ((x : X) → p x ≡ true → q x ≡ true) → (xs : List X) → list_all p xs ≡ true → list_all q xs ≡ true
 list_all-weaker p q so [] e = refl
 list_all-weaker p q so (x ∷ xs) e = let h = and_parts (p x) (list_all p xs) e in and_from (q x) (list_all q xs) (so x h.0) (list_all-weaker p q so xs h.1)
 

@@ -15,6 +15,7 @@ use Rattle.checking.specs.Breaks.{steps_of}
 use Rattle.checking.specs.Nesting.{writes_term}
 use Rattle.checking.specs.Pieces.{is_domain}
 use Rattle.checking.specs.Types.{domains}
+use Rattle.checking.proofs.Spelling.{list_all-weaker}
 use Rattle.sheets.specs.declared.cell.Cell.{Cell}
 use Rattle.sheets.specs.Runs.{sentence, with_shadows, types_at, listed}
 use Rattle.sheets.specs.PathSheets.{cell_of, cells_along, started, sheet_of}
@@ -25,10 +26,6 @@ use Rattle.sheets.proofs.Matching.{length-start, some_part}
 use Rattle.sheets.proofs.Placing.{types_along, sheet_types, unset_sheet, held_types, placed_start}
 use Rattle.sheets.proofs.Fitting.{all_at, fits, fits_parts, all_fit}
 use Rattle.sheets.proofs.Equating.{IsSet, unset_by, set_left, set_right, set_along}
-
-list_all-weaker : {X : Type 0} (p q : X → Bool) → ((x : X) → p x ≡ true → q x ≡ true) → (xs : List X) → list_all p xs ≡ true → list_all q xs ≡ true
-list_all-weaker p q f [] h = refl
-list_all-weaker p q f (x ∷ xs) h = let t = and_parts (p x) _ h in and_from _ _ (f x t.0) (list_all-weaker p q f xs t.1)
 
 -- ---- bounds
 domain_bounded : (d : Domain) → is_domain d ≡ true → is_bounded (cell_of None d) ≡ true
