@@ -4,6 +4,8 @@ ghost use Rattle.std.specs.Prelude.{◌≡◌, ◌+◌, ◌<◌, ◌≤◌, leng
 ghost use Rattle.std.specs.List.{list_all};
 ghost use Rattle.jcode.specs.Bytes.{in_class, passes};
 
+use terms::part::part;
+
 #[derive(Clone, Copy, Debug, PartialEq, Eq)]
 pub(super) enum Class {
     Separator,
@@ -43,15 +45,22 @@ impl Class {
         bytes.iter().all(|&byte| self.contains(byte))
     }
 
-    // How many bytes of the class stand from `start` on.
+    // How many bytes of the class stand at the front.
+    fn front(self, bytes: &[u8]) -> usize
+        ensures value { result ≡ length (take_while (in_class self) bytes.now) }
+        ensures within { result ≤ length bytes.now }
+    {
+        bytes
+            .iter()
+            .take_while(|&&byte| self.contains(byte))
+            .count()
+    }
+
+    // How many bytes of the class stand from `start` on. By a part of the slice, since an iterator that skips bytes walks past each of them.
     pub(super) fn run(self, bytes: &[u8], start: usize) -> usize
         ensures value { result ≡ length (take_while (in_class self) (drop start bytes.now)) }
         ensures within { 0 < result → start + result ≤ length bytes.now }
     {
-        bytes
-            .iter()
-            .skip(start)
-            .take_while(|&&byte| self.contains(byte))
-            .count()
+        self.front(part(bytes, start, bytes.len()))
     }
 }

@@ -1,6 +1,7 @@
 // The cursor: a place in the bytes, and the pieces of the notation that it reads and passes.
 
-ghost use Rattle.std.specs.Prelude.{◌≡◌, ◌+◌, ◌-◌, ◌^◌, ◌<◌, ◌≤◌, min, length, IfOk, IfSome, Ok, slice_get};
+ghost use Rattle.std.specs.Prelude.{◌≡◌, ◌+◌, ◌-◌, ◌^◌, ◌<◌, ◌≤◌, min, length, take, drop, IfOk, IfSome, Ok, slice_get, codes};
+ghost use Rattle.terms.specs.Words.{same_word};
 ghost use Rattle.jcode.specs.Bytes.{in_class, run_at, text_run, text_at, slice};
 ghost use Rattle.jcode.specs.Pieces.{Reads, told, value_after, proper, white, starts_with, short, read_mark, read_white, read_gap, read_end, read_may_gap, read_word, read_name, read_keyword, read_decimal, read_number, read_label, read_inner, read_text};
 
@@ -21,11 +22,19 @@ pub struct Cursor<'a> {
 
 const GREATEST: u32 = number::GREATEST as u32;
 
+// Whether `/)` stands at a place. Apart from `in_text`, which asks it at a slash alone.
+#[inline(never)]
+fn closes(bytes: &[u8], at: usize) -> bool
+    ensures { result ≡ same_word (take 2 (drop at bytes.now)) (codes "/)") }
+{
+    same_word(part(bytes, at, 2), b"/)")
+}
+
 // Whether a text goes on at a place: a byte of a text stands there, and no `/)`.
 fn in_text(bytes: &[u8], at: usize) -> bool
     ensures { result ≡ text_at bytes.now at }
 {
-    Class::Text.stands(bytes, at) && !same_word(part(bytes, at, 2), b"/)")
+    Class::Text.stands(bytes, at) && (bytes[at] != b'/' || !closes(bytes, at))
 }
 
 // How many bytes of a text stand from `start` on.

@@ -38,7 +38,7 @@ impl Scope<'_> {
         ensures { result ≡ renews (scope_of self.entry) variable }
     {
         self.listing
-            .is_some_and(|listing| listing.listed().contains(&variable))
+            .is_some_and(|listing| contains(listing.listed(), variable))
     }
 
     // The number of the variable with this name, if NEW lists it.
@@ -50,7 +50,7 @@ impl Scope<'_> {
     }
 }
 
-// Whether a variable is among these: the public word for it, which no reader here calls but others may.
+// Whether a variable is among these.
 pub fn contains(variables: &[usize], variable: usize) -> bool
     ensures { result ≡ member variable variables.now }
 {

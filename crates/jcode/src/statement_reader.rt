@@ -12,7 +12,7 @@ ghost use Rattle.jcode.specs.ReadStatements.{read_single, read_again, read_repea
 use super::cursor::Cursor;
 use super::mention::UnitRow;
 use super::refusal::{ReadFault, Refusal};
-use super::scope::Scope;
+use super::scope::{Scope, contains};
 use super::span::Span;
 use super::statement::{LIST_LIMIT, Listing, NESTING_LIMIT, STATEMENT_LIMIT, Statement, Term};
 use super::table::Table;
@@ -141,7 +141,7 @@ impl Cursor<'_> {
             return Err(Refusal::Limit.at(place));
         }
         let variable = self.variable(scope)?;
-        if listing.listed().contains(&variable) {
+        if contains(listing.listed(), variable) {
             return Err(Refusal::Name.at(place));
         }
         Ok(variable)
