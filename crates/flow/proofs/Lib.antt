@@ -1,6 +1,5 @@
 pub mod Lowest
 pub mod Ahead
-pub mod Made
 pub mod Ordering
 pub mod Labelling
 pub mod Leading

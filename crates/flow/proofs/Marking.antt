@@ -1,6 +1,5 @@
 -- What is seen is reached, and once all that is seen is done, what is reached is seen.
-use Rattle.std.proofs.Common.{◌≡◌, ℕ, zero, suc, ◌+◌, ◌<◌, ◌≤◌, Bool, true, false, ◌≢◌, ◌⊎◌, List, [], ◌∷◌, length, set, replicate, nat_lt, ◌&&◌, Decides, subst, sym, refl, ap, ◌∙◌, inl, inr, ⊎_elim, arith, get_or-set_other, get_or-set_same, below_more}
-use Rattle.std.proofs.lemmas.List.{get_or_past}
+use Rattle.std.proofs.Common.{◌≡◌, ℕ, zero, suc, ◌+◌, ◌<◌, ◌≤◌, Bool, true, false, ◌≢◌, ◌⊎◌, List, [], ◌∷◌, length, set, replicate, Some, None, Option, MatchOption, nat_lt, ◌&&◌, Decides, subst, sym, refl, ap, ◌∙◌, inl, inr, ⊎_elim, arith, get_or-set_other, get_or-set_same, below_more}
 use Rattle.std.proofs.lemmas.Bool.{cases_eq, cases_lt, false_from_ne_true}
 use Rattle.std.proofs.lemmas.Bool.Decides.{Decides-and, Decides-ltb}
 use Rattle.flow.specs.declared.step.Step.{Step}
@@ -8,7 +7,7 @@ use Rattle.flow.specs.declared.flow.TheConstants.{MOST_STEPS}
 use Rattle.flow.specs.declared.circle.Mark.{Mark}
 use Rattle.flow.specs.declared.circle.Mark.TheVariants.{Unseen, Seen, Done}
 use Rattle.flow.specs.Steps.{at, leads, Next, Reach, one, onto}
-use Rattle.flow.specs.Circles.{mark_at, reached, comes, Spread}
+use Rattle.flow.specs.Circles.{mark_at, reached, comes, Spread, Pending}
 use Rattle.flow.specs.Counts.{Enclosed}
 use Rattle.flow.proofs.Leading.{never, leads_inside}
 
@@ -16,6 +15,11 @@ use Rattle.flow.proofs.Leading.{never, leads_inside}
 pub within : (u : List Step) (i j : ℕ) → Reach u i j → i < length u
 within u i j (one n) = leads_inside u i j n
 within u i k (onto {j = j} r n) = within u i j r
+
+-- and so is what it reaches
+reached_inside : (u : List Step) (i j : ℕ) → Reach u i j → j < length u
+reached_inside u i j (one n) = n.0
+reached_inside u i j (onto r n) = n.0
 
 -- ---- one mark
 missed : (m : Mark) (b : Bool) → b ≡ false → reached m b ≡ m
@@ -87,6 +91,12 @@ spread_ends u i old new j high h s k = ⊎_elim
     (λ l. s.below k l)
     (λ l. s.above k l ∙ sym (missed (mark_at old k) (comes u i k) (no_successor u i k (λ n. let b = s.none_above k n in omega arith))))
     (cases_lt k j)
+
+-- ---- one that is seen and not done, by a search through the statements
+pub found_pending : (u : List Step) (marks : List Mark) (n : ℕ) (r : Option ℕ) → n ≡ length u
+    → MatchOption r ((k : ℕ) → 0 ≤ k → k < n → mark_at marks k ≡ Seen → ⊥) (λ j. (0 ≤ j) × (j < n) × (mark_at marks j ≡ Seen) × ((k : ℕ) → 0 ≤ k → k < j → mark_at marks k ≡ Seen → ⊥)) → Pending u marks r
+found_pending u marks n None e h = λ j l s. h j (omega arith) (omega arith) s
+found_pending u marks n (Some j) e h = (omega (arith, h.1), h.2)
 
 -- ---- how many are not done
 abbrev pub unfinished : Mark → ℕ
@@ -161,10 +171,10 @@ module _ (u : List Step) (i : ℕ) (marks : List Mark) (m : Marks u i marks) whe
             (cases_eq h j);
       }
 
-  module _ (over : (k : ℕ) → k < length marks → mark_at marks k ≢ Seen) where
+  module _ (over : (k : ℕ) → k < length u → mark_at marks k ≢ Seen) where
     -- all that is seen is done
     done : (k : ℕ) → mark_at marks k ≢ Unseen → mark_at marks k ≡ Done
-    done k ne = only (mark_at marks k) ne (⊎_elim (over k) (λ l. absurd (ne (get_or_past marks k Unseen l))) (cases_lt k (length marks)))
+    done k ne = only (mark_at marks k) ne (over k (reached_inside u i k (m.sound k ne)))
 
     pub complete : (k : ℕ) → Reach u i k → mark_at marks k ≢ Unseen
     complete k (one n) = m.first k n

@@ -4,7 +4,7 @@ ghost use Rattle.std.specs.Prelude.{◌≡◌, Decides};
 ghost use Rattle.flow.specs.Flows.{steps_in};
 ghost use Rattle.flow.specs.Least.{Least};
 ghost use Rattle.flow.specs.Steps.{OnCircle};
-ghost use Rattle.flow.specs.Circles.{reached as mark_reached, Spread};
+ghost use Rattle.flow.specs.Circles.{reached as mark_reached, Spread, Pending};
 
 use super::flow::{Flow, MOST_STEPS};
 
@@ -42,13 +42,20 @@ impl Flow {
         }
     }
 
+    // A statement that was seen and is not done.
+    fn pending(&self, marks: &Marks) -> Option<usize>
+        ensures { Pending (steps_in self.now) marks.now result }
+    {
+        (0..self.len()).find(|&j| marks[j] == Mark::Seen)
+    }
+
     // Whether a statement reaches itself: all that it reaches is seen, each statement's successors once.
     fn is_circular(&self, i: usize) -> bool
         ensures { Decides result (OnCircle (steps_in self.now) i) }
     {
         let mut marks = [Mark::Unseen; MOST_STEPS];
         self.spread(i, &mut marks);
-        while let Some(j) = marks.iter().position(|&mark| mark == Mark::Seen) {
+        while let Some(j) = self.pending(&marks) {
             marks[j] = Mark::Done;
             self.spread(j, &mut marks);
         }

@@ -1,13 +1,12 @@
 // Counts: how many ways lead on from each statement to a REQUIRE, clipped.
 
-ghost use Rattle.std.specs.Prelude.{◌≡◌, min};
+ghost use Rattle.std.specs.Prelude.{◌≡◌, ℕ, ◌<◌, min, length, slice_index};
 ghost use Rattle.flow.specs.Flows.{steps_in};
 ghost use Rattle.flow.specs.Numbers.{onward};
 ghost use Rattle.flow.specs.Counts.{sum_at, clipped, Counted};
 
 use super::flow::{Flow, MOST_STEPS};
 use super::step::Step;
-use std::array;
 
 // The most paths that a unit may have.
 const MOST_PATHS: u32 = 65_536;
@@ -36,13 +35,23 @@ impl Flow {
         self.sum(counts, Some(i)).saturating_add(here).min(LIMIT)
     }
 
+    // Each statement's count anew, from the old ones. By the statements' own places: an array made by a closure would take a count for each of its places.
+    fn sweep(&self, old: &Counts, new: &mut Counts)
+        ensures { (k : ℕ) → k < length (steps_in self.now) → slice_index new.new k ≡ clipped (steps_in self.now) old.now k }
+    {
+        for i in 0..self.len() {
+            new[i] = self.count_of(old, i);
+        }
+    }
+
     // Where no statement reaches itself, as many sweeps as statements see each way to its end.
     pub(super) fn counts(&self) -> Counts
         ensures { Counted (steps_in self.now) result }
     {
         let mut counts = [0; MOST_STEPS];
         for _sweep in 0..self.len() {
-            counts = array::from_fn(|i| self.count_of(&counts, i));
+            let old = counts;
+            self.sweep(&old, &mut counts);
         }
         counts
     }
