@@ -13,7 +13,7 @@ use super::mark::{ANY, Mark};
 use super::reckoning::Reckoning;
 use terms::fits::Fits;
 use terms::kind::{Kind, Sort};
-use terms::number::{in_span, product, spans};
+use terms::number::{GREATEST, LEAST, in_span, product};
 use terms::operator::Operator;
 
 #[derive(Clone, Copy, Debug, PartialEq, Eq)]
@@ -23,7 +23,8 @@ impl Mark {
     pub(super) fn is_range(self) -> bool
         ensures { result ≡ is_range self }
     {
-        self.low <= self.high && spans(self.low) && spans(self.high)
+        // What lies between two numbers of the span lies in it.
+        LEAST <= self.low && self.low <= self.high && self.high <= GREATEST
     }
 
     fn contains(self, number: i64) -> bool
@@ -68,8 +69,8 @@ impl Fits<Mark> for Ranges {
     ghost fits = { λ _. range_fits };
 
     fn fits(&self, sort: Sort, operand: Mark) -> bool {
-        let has_truth = operand.contains(0) || operand.contains(1);
-        operand.is_range() && (has_truth || sort != Sort::Of(Kind::Truth))
+        let is_truth = sort == Sort::Of(Kind::Truth);
+        operand.is_range() && (!is_truth || operand.contains(0) || operand.contains(1))
     }
 }
 
@@ -192,6 +193,8 @@ fn computed(operator: Operator, a: Mark, b: Mark, c: Mark) -> Mark
     }
 }
 
+// Apart from the stack that rows are read onto: in one piece the two take turns for the machine's registers.
+#[inline(never)]
 fn applied(operator: Operator, a: Mark, b: Mark, c: Mark) -> Mark
     ensures { result ≡ range_applied operator a b c }
 {

@@ -1,5 +1,5 @@
 -- Terms: rows in Polish notation, and the one fold that reads them.
-use Rattle.std.specs.Prelude.{◌≡◌, ℕ, ◌+◌, ◌-◌, ◌<◌, ◌≤◌, max, cond, List, [], ◌∷◌, map, length, take, drop, ℤ, pos, Some, None, Option, Ok, Err, Result, nat_le, slice_index_or}
+use Rattle.std.specs.Prelude.{◌≡◌, ℕ, ◌+◌, ◌-◌, ◌<◌, ◌≤◌, ◌⊎◌, max, cond, List, [], ◌∷◌, map, length, take, drop, ℤ, pos, Some, None, Option, Ok, Err, Result, nat_le, slice_index_or}
 use Rattle.std.specs.List.{slice_get}
 use Rattle.terms.specs.declared.fold.Full.{Full}
 use Rattle.terms.specs.declared.operator.Operator.{Operator}
@@ -49,6 +49,12 @@ abbrev pub FoldedRow : {M X : Type 0} → Algebra M X → Row M → List X → �
 FoldedRow g r before top (Err _) after next = (top ≡ 0) × (after ≡ before) × (next ≡ top)
 FoldedRow g r before top (Ok x) after next =
     (0 < top) × (slice_get (onto g r (drop top before)) 0 ≡ Some x) × (length after ≡ length before) × (top ≤ next + 1) × (next < length before) × (drop next after ≡ onto g r (drop top before)) × (take (top - 1) after ≡ take (top - 1) before)
+
+-- the same for a stack that is told by its place alone: the call tells where it begins then, or nothing if there is no place in front of it or it begins past the entries
+abbrev pub FoldedRowAt : {M X : Type 0} → Algebra M X → Row M → List X → ℕ → Option ℕ → List X → Type 0
+FoldedRowAt g r before top None after = ((top ≡ 0) ⊎ (length before < top)) × (after ≡ before)
+FoldedRowAt g r before top (Some t) after =
+    (0 < top) × (top ≤ length before) × (top ≤ t + 1) × (t < length before) × (drop t after ≡ onto g r (drop top before)) × (take (top - 1) after ≡ take (top - 1) before)
 
 -- a call reads rows onto a stack that stands from `top` on, at the end of its entries, and leaves those alone that it does not take; with too few of them it tells nothing
 abbrev pub Folded : {M X : Type 0} → Algebra M X → List (Row M) → List X → Option ℕ → List X → Type 0

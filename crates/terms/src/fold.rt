@@ -2,7 +2,7 @@
 
 ghost use Rattle.std.specs.Prelude.{◌≡◌, ◌-◌, ◌<◌, ◌≤◌, length, take, drop, min, slice_index_or};
 ghost use Rattle.std.specs.List.{slice_get};
-ghost use Rattle.terms.specs.Terms.{Algebra, Replaced, FoldedRow, Folded, Worked, entries_for, newest_in, outcome_in};
+ghost use Rattle.terms.specs.Terms.{Algebra, Replaced, FoldedRow, FoldedRowAt, Folded, Worked, entries_for, newest_in, outcome_in};
 
 use super::operator::Operator;
 use super::row::Row;
@@ -87,7 +87,8 @@ impl<'a, X: Copy> Stack<'a, X> {
         Ok(entry)
     }
 
-    // Reads one row, and tells its entry, which is the newest then.
+    // Reads one row, and tells its entry, which is the newest then. In one piece with what calls it, so that a loop over rows keeps the stack's place at hand.
+    #[inline(always)]
     pub fn read<M: Copy, I: Interpretation<M, X>>(
         &mut self,
         interpretation: &I,
@@ -112,6 +113,23 @@ impl<'a, X: Copy> Stack<'a, X> {
             }
         }
     }
+}
+
+// Reads one row onto the stack that stands from a place on, and tells where it begins then; `None`, with all entries as they were, if there is no place in front of it or it begins past their end.
+pub fn fold_row<M: Copy, X: Copy, I: Interpretation<M, X>>(
+    interpretation: &I,
+    row: Row<M>,
+    entries: &mut [X],
+    top: usize,
+) -> Option<usize>
+    ensures { FoldedRowAt (I.algebra interpretation.now) row entries.old top result entries.new }
+{
+    if top > entries.len() {
+        return None;
+    }
+    let mut stack = Stack::at(entries, top);
+    let read = stack.read(interpretation, row);
+    read.is_ok().then_some(stack.top)
 }
 
 // Reads the rows onto a stack that stands at the end of the lent entries, its newest entry first, and tells where it begins; `None` if reading takes more entries.
