@@ -35,6 +35,9 @@ use terms::row::Row;
 // The most bytes that may come.
 const INPUT_LIMIT: usize = 65_536;
 
+// One byte more than may come, to see whether it does.
+const BUFFER: usize = INPUT_LIMIT + 1;
+
 // Room for the sheet of any path, which comes to a statement once at most: a statement lists a few variables, and gives two parts at most, of which an ASSIGN's have two rows more than its terms.
 const SHEET_CELLS: usize = 2 * VARIABLE_LIMIT + 2 * LIST_LIMIT * STATEMENT_LIMIT;
 
@@ -98,13 +101,14 @@ impl From<io::Error> for Fault {
     }
 }
 
-// Standard input to its end, or as much of it as shows that too much comes.
-fn input(rt: &HostRuntime) -> Result<Vec<u8>, Fault> {
-    let mut bytes = Vec::new(rt.alloc());
-    rt.stdin()
-        .take(INPUT_LIMIT as u64 + 1)
-        .read_to_end(&mut bytes)?;
-    Ok(bytes)
+// Standard input to its end, or as much of it as the buffer takes; how much that is.
+fn input(rt: &HostRuntime, buffer: &mut [u8]) -> Result<usize, Fault>
+    ensures { IfOk result (λ n. n ≤ length buffer.old) }
+{
+    let length = buffer.len();
+    let mut room = buffer;
+    io::copy(&mut rt.stdin().take(length as u64), &mut room)?;
+    Ok(length.saturating_sub(room.len()))
 }
 
 // Settles the next condition. A slip that comes back is handed back at once, so that none is owed.
@@ -140,14 +144,17 @@ fn examine(unit: CheckedUnit<'_>, desk: &mut Desk<'_>, line: &mut [u8]) -> Resul
 
 // A line for each unit.
 fn run(rt: &HostRuntime) -> Result<(), Fault> {
-    let bytes = input(rt)?;
-    if bytes.len() > INPUT_LIMIT {
+    // An array, so that no input can fail for want of memory.
+    let mut buffer = [0; BUFFER];
+    let count = input(rt, &mut buffer)?;
+    if count > INPUT_LIMIT {
         let fault = ReadFault {
             refusal: Refusal::Limit,
             place: INPUT_LIMIT,
         };
         return Err(fault.into());
     }
+    let bytes = &buffer[..count];
     // Arrays of the limits: each unit that may be read fits them, and so does the sheet of each path.
     let mut variables = [Variable::default(); VARIABLE_LIMIT];
     let mut statements = [Statement::default(); STATEMENT_LIMIT];
@@ -163,10 +170,10 @@ fn run(rt: &HostRuntime) -> Result<(), Fault> {
     let mut stdout = rt.stdout();
     let mut at = 0;
     while at < bytes.len() {
-        let outline = read(&bytes, at, &mut variables, &mut statements, &mut rows)?;
+        let outline = read(bytes, at, &mut variables, &mut statements, &mut rows)?;
         let mut unit = CheckedUnit::house();
         unit.check(
-            &bytes,
+            bytes,
             outline.name,
             &variables[..outline.variables],
             &statements[..outline.statements],
